@@ -1,0 +1,4 @@
+pub mod Cards
+pub mod Contents
+pub mod Fluents
+pub mod Limits

@@ -1,0 +1,5 @@
+// Set-up cards: a planning domain whose states are sets of fluents.
+pub mod action;
+pub mod card;
+pub mod card_domain;
+pub mod fluents;
