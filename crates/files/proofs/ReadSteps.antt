@@ -1,0 +1,108 @@
+-- Steps of the loops that read.
+use mathlib.Core.Path.{_≡_, refl, ap, sym, _∙_}
+use mathlib.Core.Bool.{Bool, true, false, cond, _&&_}
+use mathlib.Core.List.{List, [], _∷_, _++_, append-assoc}
+use Prim.Native.Nat.{ℕ, suc, _+_, _-_, _/_, _≤_, _<_}
+use native.Mathlib.Nat.{add-zero, add-assoc}
+use native.Mathlib.Omega.{arith}
+use lib.Dec.{ltb}
+use lib.ListN.{length, getD, take, drop}
+use Rattle.std.specs.declared.result.Result.{Result}
+use Rattle.std.specs.declared.result.Result.the-variants.{Ok, Err}
+use Rattle.std.proofs.shelf.Lists.{at-drop-more, at-drop-all, append-nil}
+use Rattle.files.specs.declared.fault.ReadFault.{ReadFault}
+use Rattle.files.specs.declared.field.Field.{Field}
+use Rattle.files.specs.declared.field.Field.the-variants.{Set, Place, Cost}
+use Rattle.files.specs.declared.kind.Kind.{Kind}
+use Rattle.files.specs.declared.kind.Part.{Part}
+use Rattle.files.specs.Contents.{Entry, isWritten}
+use Rattle.files.specs.Formats.{bytesOf, absentOf, limitOf}
+use Rattle.files.specs.Reading.{then, withFirst, isOdd, valueAt, readField, readFields, sizeOf, readRecord, readRecords, partWith, partsWith}
+
+-- what was read before, and then what is read next
+abbrev pub prefixed : {X Y : Type 0} → List X → Result (List X × Y) ReadFault → Result (List X × Y) ReadFault
+prefixed xs (Ok y) = Ok (xs ++ y .0, y .1)
+prefixed xs (Err e) = Err e
+
+pub prefixed-none : {X Y : Type 0} (xs : List X) (r : Result (List X × Y) ReadFault) → xs ≡ [] → r ≡ prefixed xs r
+prefixed-none xs (Ok y) e = ap (λ l. Ok (l ++ y .0, y .1)) (sym e)
+prefixed-none xs (Err f) e = refl
+
+pub prefixed-more : {X Y : Type 0} (xs : List X) (x : X) (r : Result (List X × Y) ReadFault) → prefixed xs (withFirst x r) ≡ prefixed (xs ++ (x ∷ [])) r
+prefixed-more xs x (Ok y) = ap (λ l. Ok (l, y .1)) (sym (append-assoc xs (x ∷ []) (y .0)))
+prefixed-more xs x (Err e) = refl
+
+-- a turn that reads x, and one that is refused
+module _ {X Y Z : Type 0} (xs : List X) (r : Result Z ReadFault) (x : Z → X) (rest : Z → Result (List X × Y) ReadFault) where
+  pub turn-ok : (z : Z) → r ≡ Ok z → prefixed xs (then r (λ z. withFirst (x z) (rest z))) ≡ prefixed (xs ++ (x z ∷ [])) (rest z)
+  turn-ok z e = ap (λ r. prefixed xs (then r (λ z. withFirst (x z) (rest z)))) e ∙ prefixed-more xs (x z) (rest z)
+
+  pub turn-err : (f : ReadFault) → r ≡ Err f → prefixed xs (then r (λ z. withFirst (x z) (rest z))) ≡ Err f
+  turn-err f e = ap (λ r. prefixed xs (then r (λ z. withFirst (x z) (rest z)))) e
+
+-- the fields of a record, from the i-th on
+module _ (fs : List Field) (i : ℕ) where
+  pub size-more : (m : ℕ) → i < length fs → sizeOf m (drop i fs) ≡ cond (isOdd m) (bytesOf (getD fs i Set)) 0 + sizeOf (m / 2) (drop (i + 1) fs)
+  size-more m h = at-drop-more (sizeOf m) fs i Set h
+
+  pub size-all : (m : ℕ) → length fs ≤ i → sizeOf m (drop i fs) ≡ 0
+  size-all m h = at-drop-all (sizeOf m) fs i h
+
+  pub fields-more : (bs : List ℕ) (size r at m : ℕ) → i < length fs → readFields bs size r at m (drop i fs) ≡ then (readField bs size r at (getD fs i Set) (isOdd m)) (λ x. withFirst (x .0) (readFields bs size r (x .1) (m / 2) (drop (i + 1) fs)))
+  fields-more bs size r at m h = at-drop-more (readFields bs size r at m) fs i Set h
+
+  pub fields-all : (bs : List ℕ) (size r at m : ℕ) (vs : List ℕ) → length fs ≤ i → prefixed vs (readFields bs size r at m (drop i fs)) ≡ Ok (vs, (m, at))
+  fields-all bs size r at m vs h = ap (prefixed vs) (at-drop-all (readFields bs size r at m) fs i h) ∙ ap (λ l. Ok (l, (m, at))) (append-nil vs)
+
+pub bytes-few : (f : Field) → bytesOf f ≤ 7
+bytes-few Set = omega arith
+bytes-few Place = omega arith
+bytes-few Cost = omega arith
+
+pub ok-same : {X : Type 0} (x y : X) → _≡_ {A = Result X ReadFault} (Ok x) (Ok y) → x ≡ y
+ok-same x y e = cc
+
+pub ok-or-err : {X C : Type 0} (x : X) (f : ReadFault) → _≡_ {A = Result X ReadFault} (Err f) (Ok x) → C
+ok-or-err x f e = let z : _≡_ {A = ℕ} 0 1 = cc in absurd (omega arith)
+
+-- where a test decides between an answer and a refusal, an answer tells that it passed
+pub passed : {X : Type 0} (b : Bool) (x y : X) (f : ReadFault) → cond {A = Result X ReadFault} b (Ok x) (Err f) ≡ Ok y → (b ≡ true) × (x ≡ y)
+passed true x y f e = (refl, ok-same x y e)
+passed false x y f e = ok-or-err y f e
+
+-- the byte after a field
+pub field-next : (bs : List ℕ) (size r at : ℕ) (f : Field) (b : Bool) (x : ℕ × ℕ) → readField bs size r at f b ≡ Ok x → x .1 ≡ at + cond b (bytesOf f) 0
+field-next bs size r at f true x e = sym (ap (λ p. p .1) (passed _ _ x _ e .1))
+field-next bs size r at f false x e = sym (ap (λ p. p .1) (ok-same _ x e)) ∙ sym (add-zero at)
+
+-- what is made of the records, one turn on
+module _ {X : Type 0} (make : Entry → X) where
+  parts-first : (e : Entry) (r : Result (List Entry × ℕ) ReadFault) → partsWith make (withFirst e r) ≡ withFirst (make e) (partsWith make r)
+  parts-first e (Ok y) = refl
+  parts-first e (Err f) = refl
+
+  parts-then : (r : Result (Entry × ℕ) ReadFault) (rest : ℕ → Result (List Entry × ℕ) ReadFault) → partsWith make (then r (λ x. withFirst (x .0) (rest (x .1)))) ≡ then (partWith make r) (λ x. withFirst (x .0) (partsWith make (rest (x .1))))
+  parts-then (Ok x) rest = parts-first (x .0) (rest (x .1))
+  parts-then (Err f) rest = refl
+
+  pub parts-none : (k : Kind) (p : Part) (size : ℕ) (bs : List ℕ) (n r at : ℕ) (xs : List X) → xs ≡ [] → partsWith make (readRecords k p size bs n r at) ≡ prefixed xs (partsWith make (readRecords k p size bs (n - 0) (r + 0) at))
+  parts-none k p size bs n r at xs e =
+      let whole : n ≡ n - 0 = omega arith in
+      let same : r ≡ r + 0 = omega arith in
+      ap (λ m. partsWith make (readRecords k p size bs m r at)) whole
+      ∙ ap (λ m. partsWith make (readRecords k p size bs (n - 0) m at)) same
+      ∙ prefixed-none xs _ e
+
+  pub parts-more : (k : Kind) (p : Part) (size : ℕ) (bs : List ℕ) (n i r at : ℕ) → i < n
+      → partsWith make (readRecords k p size bs (n - i) (r + i) at)
+        ≡ then (partWith make (readRecord k p size bs (r + i) at)) (λ x. withFirst (x .0) (partsWith make (readRecords k p size bs (n - (i + 1)) (r + (i + 1)) (x .1))))
+  parts-more k p size bs n i r at h =
+      let e : n - i ≡ suc (n - (i + 1)) = omega arith in
+      ap (λ m. partsWith make (readRecords k p size bs m (r + i) at)) e
+      ∙ parts-then (readRecord k p size bs (r + i) at) (readRecords k p size bs (n - (i + 1)) (r + i + 1))
+      ∙ ap (λ m. then (partWith make (readRecord k p size bs (r + i) at)) (λ x. withFirst (x .0) (partsWith make (readRecords k p size bs (n - (i + 1)) m (x .1))))) (add-assoc r i 1)
+
+  pub parts-all : (k : Kind) (p : Part) (size : ℕ) (bs : List ℕ) (n i r at : ℕ) (xs : List X) → n ≤ i → prefixed xs (partsWith make (readRecords k p size bs (n - i) r at)) ≡ Ok (xs, at)
+  parts-all k p size bs n i r at xs h =
+      let e : n - i ≡ 0 = omega arith in
+      ap (λ m. prefixed xs (partsWith make (readRecords k p size bs m r at))) e ∙ ap (λ l. Ok (l, at)) (append-nil xs)

@@ -1,0 +1,5 @@
+pub mod Contents
+pub mod Faults
+pub mod Formats
+pub mod Numbers
+pub mod Reading

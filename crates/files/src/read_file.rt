@@ -1,0 +1,96 @@
+// Reading a whole file.
+ghost use mathlib.Core.Path.{_≡_};
+ghost use Prim.Native.Nat.{_+_, _≤_};
+ghost use lib.ListN.{length};
+ghost use Rattle.std.specs.Of.Vec.{vec-len, vec-items, vec-cap};
+ghost use Rattle.files.specs.Reading.{readHeader, readRecord, readRecords, readFile, partWith, partsWith, fileWith, joinedTo, headed};
+use crate::fault::Position;
+use crate::fault::ReadFault;
+use crate::kind::Kind;
+use crate::kind::Part;
+use crate::read_record::read_record;
+use crate::numbers::read_number;
+use crate::record::Record;
+
+// What stands before the records.
+#[derive(Clone, Copy)]
+pub(crate) struct Header {
+    size: u8,
+    actions: u8,
+    goals: u8,
+    start: u64,
+}
+
+fn read_header(kind: Kind, bytes: &[u8]) -> Result<Header, ReadFault>
+    ensures { λ r. ⌜ r ≡ readHeader kind (now (bytes .entry)) ⌝ }
+{
+    if bytes.is_empty() || bytes[0] != kind.letter() {
+        return Err(ReadFault::Letter(Position { record: 0, byte: 0 }));
+    }
+    let end = 4 + kind.start().bytes();
+    if bytes.len() < end {
+        return Err(ReadFault::Header(Position { record: 0, byte: bytes.len() }));
+    }
+    let size = bytes[1];
+    if size < 1 || size > kind.most() {
+        return Err(ReadFault::Count(Position { record: 0, byte: 1 }));
+    }
+    let actions = bytes[2];
+    if actions < 1 || actions > 120 {
+        return Err(ReadFault::Count(Position { record: 0, byte: 2 }));
+    }
+    let goals = bytes[3];
+    if goals < 1 || goals > 32 {
+        return Err(ReadFault::Count(Position { record: 0, byte: 3 }));
+    }
+    let start = read_number(&bytes[4..end]);
+    if !kind.start().in_range(size, start) {
+        return Err(ReadFault::Start(Position { record: 0, byte: 4 }));
+    }
+    Ok(Header { size, actions, goals, start })
+}
+
+// What a record stands for, and the byte after it.
+fn read_part<R: Record>(kind: Kind, part: Part, size: u8, bytes: &[u8], record: usize, at: usize) -> Result<(R, usize), ReadFault>
+    ensures { λ r. ⌜ r ≡ partWith made (readRecord kind part size (now (bytes .entry)) «record» at) ⌝ }
+{
+    let mut values = [0u64; 4];
+    let (marked, next) = read_record(kind, part, size, bytes, record, at, &mut values)?;
+    let length = kind.fields(part).len();
+    Ok((R::from_values(&values[0..length], marked), next))
+}
+
+// What as many records as count says stand for, from the first on; the answer is the byte after them.
+fn read_parts<R: Record>(kind: Kind, part: Part, size: u8, bytes: &[u8], count: usize, first: usize, from: usize, room: &mut Vec<R>) -> Result<usize, ReadFault>
+    requires empty { ⌜ vec-len (now room) ≡ 0 ⌝ }
+    requires wide { ⌜ count ≤ vec-cap (now room) ⌝ }
+    requires few { ⌜ first + count ≤ 1000 ⌝ }
+    ensures value { λ r. ⌜ partsWith made (readRecords kind part size (now (bytes .entry)) count first from) ≡ joinedTo (vec-items (now (room .exit))) r ⌝ }
+    ensures room { λ _. ⌜ vec-cap (now (room .exit)) ≡ vec-cap (now (room .entry)) ⌝ }
+{
+    let mut at = from;
+    for i in 0..count {
+        let (item, next) = read_part(kind, part, size, bytes, first + i, at)?;
+        room.push_reserved(item);
+        at = next;
+    }
+    Ok(at)
+}
+
+// The actions and the goals go into the places for them; the answer is the header.
+fn read_into<S: Record, G: Record>(kind: Kind, bytes: &[u8], actions: &mut Vec<S>, goals: &mut Vec<G>) -> Result<Header, ReadFault>
+    requires empty { ⌜ (vec-len (now actions) ≡ 0) × (vec-len (now goals) ≡ 0) ⌝ }
+    requires wide { ⌜ (120 ≤ vec-cap (now actions)) × (32 ≤ vec-cap (now goals)) ⌝ }
+    ensures value { λ r. ⌜ fileWith (S·Record .made) (G·Record .made) (readFile kind (now (bytes .entry))) ≡ headed (vec-items (now (actions .exit))) (vec-items (now (goals .exit))) r ⌝ }
+    ensures room { λ _. ⌜ (vec-cap (now (actions .exit)) ≡ vec-cap (now (actions .entry))) × (vec-cap (now (goals .exit)) ≡ vec-cap (now (goals .entry))) ⌝ }
+{
+    let header = read_header(kind, bytes)?;
+    let action_count = usize::from(header.actions);
+    let goal_count = usize::from(header.goals);
+    let middle = read_parts(kind, Part::Action, header.size, bytes, action_count, 1, 4 + kind.start().bytes(), actions)?;
+    let end = read_parts(kind, Part::Goal, header.size, bytes, goal_count, 1 + action_count, middle, goals)?;
+    if end != bytes.len() {
+        return Err(ReadFault::End(Position { record: 1 + action_count + goal_count, byte: end }));
+    }
+    Ok(header)
+}

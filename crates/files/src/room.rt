@@ -1,0 +1,28 @@
+// The memory of a domain, taken before it is read.
+ghost use mathlib.Core.Path.{_≡_};
+ghost use Prim.Native.Nat.{_≤_};
+ghost use Rattle.std.specs.Of.Vec.{vec-len, vec-cap};
+use crate::fault::RoomFault;
+use std::alloc::Global;
+
+// Room for 120 actions and 32 goals, the most that a domain has, and nothing in it.
+#[derive(Drop)]
+pub struct Room<A, G> {
+    pub(crate) actions: Vec<A>,
+    pub(crate) goals: Vec<G>,
+    ghost empty: { (vec-len actions ≡ 0) × (vec-len goals ≡ 0) },
+    ghost wide: { (120 ≤ vec-cap actions) × (32 ≤ vec-cap goals) },
+}
+
+impl<A: Drop, G: Drop> Room<A, G> {
+    // The one function that can fail for want of memory.
+    pub fn take(heap: Global) -> Result<Room<A, G>, RoomFault> {
+        let Ok(actions) = Vec::with_capacity(heap, 120) else {
+            return Err(RoomFault::Memory);
+        };
+        let Ok(goals) = Vec::with_capacity(heap, 32) else {
+            return Err(RoomFault::Memory);
+        };
+        Ok(Room { actions, goals })
+    }
+}
