@@ -1,2 +1,6 @@
+pub mod Fields
 pub mod Numerals
+pub mod Outcomes
 pub mod ReadSteps
+pub mod Records
+pub mod WholeFiles

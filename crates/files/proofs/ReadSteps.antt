@@ -17,6 +17,7 @@ use Rattle.files.specs.declared.kind.Kind.{Kind}
 use Rattle.files.specs.declared.kind.Part.{Part}
 use Rattle.files.specs.Contents.{Entry, isWritten}
 use Rattle.files.specs.Formats.{bytesOf, absentOf, limitOf}
+use Rattle.files.proofs.Outcomes.{ok-same, passed}
 use Rattle.files.specs.Reading.{then, withFirst, isOdd, valueAt, readField, readFields, sizeOf, readRecord, readRecords, partWith, partsWith}
 
 -- what was read before, and then what is read next
@@ -59,20 +60,9 @@ bytes-few Set = omega arith
 bytes-few Place = omega arith
 bytes-few Cost = omega arith
 
-pub ok-same : {X : Type 0} (x y : X) → _≡_ {A = Result X ReadFault} (Ok x) (Ok y) → x ≡ y
-ok-same x y e = cc
-
-pub ok-or-err : {X C : Type 0} (x : X) (f : ReadFault) → _≡_ {A = Result X ReadFault} (Err f) (Ok x) → C
-ok-or-err x f e = let z : _≡_ {A = ℕ} 0 1 = cc in absurd (omega arith)
-
--- where a test decides between an answer and a refusal, an answer tells that it passed
-pub passed : {X : Type 0} (b : Bool) (x y : X) (f : ReadFault) → cond {A = Result X ReadFault} b (Ok x) (Err f) ≡ Ok y → (b ≡ true) × (x ≡ y)
-passed true x y f e = (refl, ok-same x y e)
-passed false x y f e = ok-or-err y f e
-
 -- the byte after a field
 pub field-next : (bs : List ℕ) (size r at : ℕ) (f : Field) (b : Bool) (x : ℕ × ℕ) → readField bs size r at f b ≡ Ok x → x .1 ≡ at + cond b (bytesOf f) 0
-field-next bs size r at f true x e = sym (ap (λ p. p .1) (passed _ _ x _ e .1))
+field-next bs size r at f true x e = sym (ap (λ p. p .1) (ok-same _ x (passed _ _ _ x e .1)))
 field-next bs size r at f false x e = sym (ap (λ p. p .1) (ok-same _ x e)) ∙ sym (add-zero at)
 
 -- what is made of the records, one turn on

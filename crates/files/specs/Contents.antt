@@ -10,7 +10,7 @@ use Rattle.files.specs.declared.field.Field.{Field}
 use Rattle.files.specs.declared.kind.Kind.{Kind}
 use Rattle.files.specs.declared.kind.Part.{Part}
 use Rattle.files.specs.declared.kind.Part.the-variants.{Action, Goal}
-use Rattle.files.specs.Formats.{bytesOf, absentOf, limitOf, letterOf, mostOf, startOf, fieldsOf, isMarkable}
+use Rattle.files.specs.Formats.{bytesOf, absentOf, limitOf, letterOf, mostOf, startOf, fieldsOf, isMarkable, bit}
 use Rattle.files.specs.Numbers.{spelled}
 
 -- a record after the header: the value of each field, absent ones too, and whether it is marked
@@ -35,10 +35,10 @@ RawFile = File Entry Entry
 abbrev pub isWritten : Field → ℕ → Bool
 isWritten f v = not (eqb v (absentOf f))
 
--- bit i tells whether field i is written; the bit after the last field's is the mark's
-abbrev pub bitMap : List Field → List ℕ → Bool → ℕ
-bitMap [] vs mark = cond mark 1 0
-bitMap (f ∷ fs) vs mark = cond (isWritten f (getD vs 0 0)) 1 0 + 2 * bitMap fs (drop 1 vs) mark
+-- bit i tells whether field i is written; top stands above the fields' bits
+abbrev pub bitMap : List Field → List ℕ → ℕ → ℕ
+bitMap [] vs top = top
+bitMap (f ∷ fs) vs top = bit (isWritten f (getD vs 0 0)) + 2 * bitMap fs (drop 1 vs) top
 
 abbrev pub fieldBytes : Field → ℕ → List ℕ
 fieldBytes f v = cond (isWritten f v) (spelled (bytesOf f) v) []
@@ -47,8 +47,12 @@ abbrev pub allFieldBytes : List Field → List ℕ → List ℕ
 allFieldBytes [] vs = []
 allFieldBytes (f ∷ fs) vs = fieldBytes f (getD vs 0 0) ++ allFieldBytes fs (drop 1 vs)
 
+-- the bit after the last field's is the mark's
+abbrev pub markBit : Part → Entry → ℕ
+markBit p e = bit (isMarkable p && e .marked)
+
 abbrev pub recordBytes : Kind → Part → Entry → List ℕ
-recordBytes k p e = bitMap (fieldsOf k p) (e .values) (isMarkable p && e .marked) ∷ allFieldBytes (fieldsOf k p) (e .values)
+recordBytes k p e = bitMap (fieldsOf k p) (e .values) (markBit p e) ∷ allFieldBytes (fieldsOf k p) (e .values)
 
 abbrev pub headerBytes : Kind → RawFile → List ℕ
 headerBytes k f = letterOf k ∷ (spelled 1 (f .size) ++ (spelled 1 (length (f .actions)) ++ (spelled 1 (length (f .goals)) ++ spelled (bytesOf (startOf k)) (f .start))))

@@ -1,5 +1,5 @@
 -- The two file formats, as tables.
-use mathlib.Core.Bool.{Bool, true, false, cond}
+use mathlib.Core.Bool.{Bool, true, false}
 use mathlib.Core.List.{List, [], _∷_}
 use Prim.Native.Nat.{ℕ, _+_, _^_}
 use lib.ListN.{length}
@@ -59,6 +59,10 @@ abbrev pub isMarkable : Part → Bool
 isMarkable Action = true
 isMarkable Goal = false
 
+abbrev pub bit : Bool → ℕ
+bit true = 1
+bit false = 0
+
 -- how many bits of a record's bit map are defined
 abbrev pub bitCount : Kind → Part → ℕ
-bitCount k p = length (fieldsOf k p) + cond (isMarkable p) 1 0
+bitCount k p = length (fieldsOf k p) + bit (isMarkable p)

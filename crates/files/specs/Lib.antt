@@ -1,4 +1,5 @@
 pub mod Contents
+pub mod Exact
 pub mod Faults
 pub mod Formats
 pub mod Numbers
