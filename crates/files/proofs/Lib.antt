@@ -4,3 +4,4 @@ pub mod Outcomes
 pub mod ReadSteps
 pub mod Records
 pub mod WholeFiles
+pub mod WriteSteps

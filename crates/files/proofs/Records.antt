@@ -25,7 +25,7 @@ use Rattle.files.specs.Reading.{then, withFirst, isOdd, readFields, sizeOf, as
 use Rattle.files.proofs.Fields.{FieldsRead, fields-read, Narrow, size-written, fields-written, after-bytes, bit-odd}
 use Rattle.files.proofs.Outcomes.{ok-same, ok-or-err, passed, then-ok, first-ok}
 
-bit-low : (b : Bool) → bit b ≤ 1
+pub bit-low : (b : Bool) → bit b ≤ 1
 bit-low true = omega arith
 bit-low false = omega arith
 

@@ -3,7 +3,7 @@ use mathlib.Core.Path.{_≡_}
 use mathlib.Core.Bool.{Bool, true, false, cond, not, _&&_}
 use mathlib.Core.List.{List, [], _∷_, _++_}
 use Prim.Native.Nat.{ℕ, _+_, _*_, _≤_, _<_}
-use lib.Dec.{eqb}
+use lib.Dec.{eqb, ltb}
 use lib.ListN.{length, getD, drop}
 use Rattle.std.specs.shelf.Lists.{All, joined}
 use Rattle.files.specs.declared.field.Field.{Field}
@@ -34,6 +34,10 @@ RawFile = File Entry Entry
 -- a field is written unless it holds its absent value
 abbrev pub isWritten : Field → ℕ → Bool
 isWritten f v = not (eqb v (absentOf f))
+
+-- what a field that is written may hold
+abbrev pub mayHold : ℕ → Field → ℕ → Bool
+mayHold size f v = ltb v (limitOf size f) && isWritten f v
 
 -- bit i tells whether field i is written; top stands above the fields' bits
 abbrev pub bitMap : List Field → List ℕ → ℕ → ℕ

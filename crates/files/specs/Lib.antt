@@ -3,4 +3,6 @@ pub mod Exact
 pub mod Faults
 pub mod Formats
 pub mod Numbers
+pub mod Outcome
 pub mod Reading
+pub mod Writing

@@ -13,8 +13,8 @@ use Rattle.files.specs.declared.field.Field.{Field}
 use Rattle.files.specs.declared.kind.Kind.{Kind}
 use Rattle.files.specs.declared.kind.Part.{Part}
 use Rattle.files.specs.declared.kind.Part.the-variants.{Action, Goal}
-use Rattle.files.specs.declared.read_file.Header.{Header}
-use Rattle.files.specs.Contents.{Entry, File, RawFile, isWritten}
+use Rattle.files.specs.declared.header.Header.{Header}
+use Rattle.files.specs.Contents.{Entry, File, RawFile, mayHold}
 use Rattle.files.specs.Formats.{bytesOf, absentOf, limitOf, letterOf, mostOf, startOf, headerLength, fieldsOf, bitCount}
 use Rattle.files.specs.Numbers.{little}
 
@@ -33,7 +33,7 @@ valueAt bs at f = little (take (bytesOf f) (drop at bs))
 abbrev pub readField : List ℕ → ℕ → ℕ → ℕ → Field → Bool → Result (ℕ × ℕ) ReadFault
 readField bs size r at f false = Ok (absentOf f, at)
 readField bs size r at f true =
-    cond (ltb (valueAt bs at f) (limitOf size f) && isWritten f (valueAt bs at f))
+    cond (mayHold size f (valueAt bs at f))
     (Ok (valueAt bs at f, at + bytesOf f))
     (Err (fault.Field (position r at)))
 

@@ -3,6 +3,7 @@ ghost use mathlib.Core.Path.{_≡_};
 ghost use Prim.Native.Nat.{_<_};
 ghost use Rattle.std.specs.Orderings.{Decides};
 ghost use Rattle.files.specs.Formats.{bytesOf, absentOf, limitOf};
+ghost use Rattle.files.specs.Contents.{isWritten, mayHold};
 use crate::numbers::has_bits;
 
 #[derive(Clone, Copy)]
@@ -44,5 +45,19 @@ impl Field {
             Field::Place => value < u64::from(size),
             Field::Cost => value <= 60_000,
         }
+    }
+
+    // Whether the value is written, and not left out.
+    pub(crate) fn is_written(self, value: u64) -> bool
+        ensures { λ r. ⌜ r ≡ isWritten self value ⌝ }
+    {
+        value != self.absent()
+    }
+
+    // Whether a field that is written may hold the value.
+    pub(crate) fn may_hold(self, size: u8, value: u64) -> bool
+        ensures { λ r. ⌜ r ≡ mayHold size self value ⌝ }
+    {
+        self.in_range(size, value) && self.is_written(value)
     }
 }

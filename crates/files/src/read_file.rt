@@ -3,52 +3,21 @@ ghost use mathlib.Core.Path.{_≡_};
 ghost use Prim.Native.Nat.{_+_, _≤_};
 ghost use lib.ListN.{length};
 ghost use Rattle.std.specs.Of.Vec.{vec-len, vec-items, vec-cap};
-ghost use Rattle.files.specs.Reading.{readHeader, readRecord, readRecords, readFile, partWith, partsWith, fileWith, joinedTo, headed};
+ghost use Rattle.std.specs.Vec.{refused};
+ghost use Rattle.files.specs.Exact.{ReadExactly};
+ghost use Rattle.files.specs.Outcome.{outcome, SameRoom};
+ghost use Rattle.files.specs.Reading.{readRecord, readRecords, readFile, partWith, partsWith, fileWith, joinedTo, headed};
 use crate::fault::Position;
 use crate::fault::ReadFault;
+use crate::file::File;
+use crate::file::Unread;
+use crate::header::Header;
+use crate::header::read_header;
 use crate::kind::Kind;
 use crate::kind::Part;
 use crate::read_record::read_record;
-use crate::numbers::read_number;
 use crate::record::Record;
-
-// What stands before the records.
-#[derive(Clone, Copy)]
-pub(crate) struct Header {
-    size: u8,
-    actions: u8,
-    goals: u8,
-    start: u64,
-}
-
-fn read_header(kind: Kind, bytes: &[u8]) -> Result<Header, ReadFault>
-    ensures { λ r. ⌜ r ≡ readHeader kind (now (bytes .entry)) ⌝ }
-{
-    if bytes.is_empty() || bytes[0] != kind.letter() {
-        return Err(ReadFault::Letter(Position { record: 0, byte: 0 }));
-    }
-    let end = 4 + kind.start().bytes();
-    if bytes.len() < end {
-        return Err(ReadFault::Header(Position { record: 0, byte: bytes.len() }));
-    }
-    let size = bytes[1];
-    if size < 1 || size > kind.most() {
-        return Err(ReadFault::Count(Position { record: 0, byte: 1 }));
-    }
-    let actions = bytes[2];
-    if actions < 1 || actions > 120 {
-        return Err(ReadFault::Count(Position { record: 0, byte: 2 }));
-    }
-    let goals = bytes[3];
-    if goals < 1 || goals > 32 {
-        return Err(ReadFault::Count(Position { record: 0, byte: 3 }));
-    }
-    let start = read_number(&bytes[4..end]);
-    if !kind.start().in_range(size, start) {
-        return Err(ReadFault::Start(Position { record: 0, byte: 4 }));
-    }
-    Ok(Header { size, actions, goals, start })
-}
+use crate::room::Room;
 
 // What a record stands for, and the byte after it.
 fn read_part<R: Record>(kind: Kind, part: Part, size: u8, bytes: &[u8], record: usize, at: usize) -> Result<(R, usize), ReadFault>
@@ -93,4 +62,29 @@ fn read_into<S: Record, G: Record>(kind: Kind, bytes: &[u8], actions: &mut Vec<S
         return Err(ReadFault::End(Position { record: 1 + action_count + goal_count, byte: end }));
     }
     Ok(header)
+}
+
+// A file of the kind, in the room that is handed over. A refusal gives the room back.
+pub fn read_file<S: Record + Drop, G: Record + Drop>(kind: Kind, bytes: &[u8], room: Room<S, G>) -> Result<File<S, G>, Unread<S, G>>
+    ensures value { λ r. ⌜ outcome r ≡ fileWith (S·Record .made) (G·Record .made) (readFile kind (now (bytes .entry))) ⌝ }
+    ensures room { λ r. ⌜ refused r (λ u. SameRoom room (u .room)) ⌝ }
+    ensures exact { λ _. ⌜ ReadExactly kind (now (bytes .entry)) ⌝ }
+{
+    let Room { mut actions, mut goals } = room;
+    match read_into(kind, bytes, &mut actions, &mut goals) {
+        Ok(header) => Ok(File {
+            size: header.size,
+            start: header.start,
+            actions,
+            goals,
+        }),
+        Err(fault) => {
+            actions.clear();
+            goals.clear();
+            Err(Unread {
+                fault,
+                room: Room { actions, goals },
+            })
+        }
+    }
 }

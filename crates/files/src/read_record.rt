@@ -26,14 +26,14 @@ fn read_field(bytes: &[u8], size: u8, record: usize, at: usize, field: Field, pr
     }
     let next = at + field.bytes();
     let value = read_number(&bytes[at..next]);
-    if !field.in_range(size, value) || value == field.absent() {
+    if !field.may_hold(size, value) {
         return Err(ReadFault::Field(Position { record, byte: at }));
     }
     Ok((value, next))
 }
 
 // How many bytes the fields take that the bit map tells of.
-fn fields_size(map: u8, fields: &[Field]) -> usize
+pub(crate) fn fields_size(map: u8, fields: &[Field]) -> usize
     requires { ⌜ length (now fields) ≤ 4 ⌝ }
     ensures { λ r. ⌜ r ≡ sizeOf map (now (fields .entry)) ⌝ }
 {

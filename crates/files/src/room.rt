@@ -7,16 +7,16 @@ use std::alloc::Global;
 
 // Room for 120 actions and 32 goals, the most that a domain has, and nothing in it.
 #[derive(Drop)]
-pub struct Room<A, G> {
-    pub(crate) actions: Vec<A>,
+pub struct Room<S, G> {
+    pub(crate) actions: Vec<S>,
     pub(crate) goals: Vec<G>,
     ghost empty: { (vec-len actions ≡ 0) × (vec-len goals ≡ 0) },
     ghost wide: { (120 ≤ vec-cap actions) × (32 ≤ vec-cap goals) },
 }
 
-impl<A: Drop, G: Drop> Room<A, G> {
+impl<S: Drop, G: Drop> Room<S, G> {
     // The one function that can fail for want of memory.
-    pub fn take(heap: Global) -> Result<Room<A, G>, RoomFault> {
+    pub fn take(heap: Global) -> Result<Room<S, G>, RoomFault> {
         let Ok(actions) = Vec::with_capacity(heap, 120) else {
             return Err(RoomFault::Memory);
         };

@@ -1,0 +1,99 @@
+-- Steps of the loops that write.
+use mathlib.Core.Path.{_≡_, refl, ap, sym, subst, _∙_}
+use mathlib.Core.Bool.{Bool, true, false, cond}
+use mathlib.Core.List.{List, [], _∷_, _++_, append-assoc}
+use Prim.Native.Nat.{ℕ, zero, suc, _+_, _-_, _*_, _/_, _%_, _^_, _≤_, _<_}
+use native.Mathlib.Nat.{add-zero, add-assoc, pow-suc, pow-le-pow-right, div-one, div-div-eq-div-mul, mul-comm}
+use native.Mathlib.Numerals.{add-one}
+use native.Mathlib.Omega.{arith}
+use lib.ListN.{length, getD, take, drop, set}
+use Rattle.std.proofs.shelf.Lists.{take-more-set, drop-set-lt, drop-drop, drop-more, getD-drop, length-append, length-drop, append-nil, append-cancel-right}
+use Rattle.files.specs.declared.field.Field.{Field}
+use Rattle.files.specs.declared.field.Field.the-variants.{Set}
+use Rattle.files.specs.Contents.{isWritten, bitMap, fieldBytes, allFieldBytes}
+use Rattle.files.specs.declared.kind.Kind.{Kind}
+use Rattle.files.specs.declared.kind.Kind.the-variants.{Card, Map}
+use Rattle.files.specs.declared.kind.Part.{Part}
+use Rattle.files.specs.declared.kind.Part.the-variants.{Action, Goal}
+use Rattle.files.specs.Formats.{fieldsOf, bit}
+use Rattle.files.specs.Numbers.{spelled}
+use Rattle.files.specs.Writing.{Wrote}
+use Rattle.files.proofs.Numerals.{length-spelled}
+use Rattle.files.proofs.Records.{map-below}
+
+pub wrote-none : (at : ℕ) (place : List ℕ) → Wrote [] at place place at
+wrote-none at place = record { end = sym (add-zero at); front = sym (append-nil (take at place)); back = refl }
+
+pub wrote-byte : (at b : ℕ) (place : List ℕ) → at < length place → Wrote (b ∷ []) at place (set place at b) (at + 1)
+wrote-byte at b place h = record { end = refl; front = take-more-set place at b h; back = drop-set-lt (at + 1) place at b (omega arith) }
+
+-- one part after another
+pub wrote-then : (xs ys : List ℕ) (at mid next : ℕ) (p q r : List ℕ) → Wrote xs at p q mid → Wrote ys mid q r next → Wrote (xs ++ ys) at p r next
+wrote-then xs ys at mid next p q r one two = record
+  { end = omega (arith, one .end, two .end, length-append xs ys)
+  ; front = two .front ∙ ap (λ t. t ++ ys) (one .front) ∙ append-assoc (take at p) xs ys
+  ; back = two .back ∙ after q ∙ ap (drop (length ys)) (one .back) ∙ sym (after p) }
+  where
+    after : (s : List ℕ) → drop next s ≡ drop (length ys) (drop mid s)
+    after s = ap (λ n. drop n s) (two .end) ∙ sym (drop-drop (length ys) mid s)
+
+-- a number, byte by byte
+high-more : (v i : ℕ) → v / 256 / 256 ^ i ≡ v / 256 ^ suc i
+high-more v i = div-div-eq-div-mul v 256 (256 ^ i) ∙ ap (λ n. v / n) (mul-comm 256 (256 ^ i) ∙ sym (pow-suc 256 i))
+
+spelled-suc : (i v : ℕ) → spelled (suc i) v ≡ spelled i v ++ (v / 256 ^ i % 256 ∷ [])
+spelled-suc zero v = ap (λ n. n % 256 ∷ []) (sym (div-one v))
+spelled-suc (suc i) v = ap (λ t. v % 256 ∷ t) (spelled-suc i (v / 256) ∙ ap (λ n. spelled i (v / 256) ++ (n % 256 ∷ [])) (high-more v i))
+
+pub spelled-more : (i v : ℕ) → spelled (i + 1) v ≡ spelled i v ++ (v / 256 ^ i % 256 ∷ [])
+spelled-more i v = ap (λ n. spelled n v) (add-one i) ∙ spelled-suc i v
+
+pub high-next : (v i : ℕ) → v / 256 ^ i / 256 ≡ v / 256 ^ (i + 1)
+high-next v i = div-div-eq-div-mul v (256 ^ i) 256 ∙ ap (λ n. v / n) (sym (ap (λ n. 256 ^ n) (add-one i) ∙ pow-suc 256 i))
+
+-- the fields below the i-th, and the others
+pub fields-split : (fs : List Field) (vs : List ℕ) (i : ℕ) → allFieldBytes fs vs ≡ allFieldBytes (take i fs) vs ++ allFieldBytes (drop i fs) (drop i vs)
+fields-split fs vs zero = refl
+fields-split [] vs (suc i) = refl
+fields-split (f ∷ fs) vs (suc i) =
+    let next : 1 + i ≡ suc i = omega arith in
+    let one : drop i (drop 1 vs) ≡ drop (suc i) vs = drop-drop i 1 vs ∙ ap (λ n. drop n vs) next in
+    ap (λ t. fieldBytes f (getD vs 0 0) ++ t) (fields-split fs (drop 1 vs) i ∙ ap (λ us. allFieldBytes (take i fs) (drop 1 vs) ++ allFieldBytes (drop i fs) us) one)
+    ∙ sym (append-assoc (fieldBytes f (getD vs 0 0)) (allFieldBytes (take i fs) (drop 1 vs)) (allFieldBytes (drop i fs) (drop (suc i) vs)))
+
+-- the i-th field stands first among the others
+module _ (fs : List Field) (vs : List ℕ) (i : ℕ) (h : i < length fs) where
+  first-value : getD (drop i vs) 0 0 ≡ getD vs i 0
+  first-value = getD-drop i vs 0 0 ∙ ap (λ n. getD vs n 0) (add-zero i)
+
+  other-values : drop 1 (drop i vs) ≡ drop (i + 1) vs
+  other-values = drop-drop 1 i vs
+
+  pub fields-first : allFieldBytes (drop i fs) (drop i vs) ≡ fieldBytes (getD fs i Set) (getD vs i 0) ++ allFieldBytes (drop (i + 1) fs) (drop (i + 1) vs)
+  fields-first =
+      ap (λ gs. allFieldBytes gs (drop i vs)) (drop-more fs i Set h)
+      ∙ ap (λ v. fieldBytes (getD fs i Set) v ++ allFieldBytes (drop (i + 1) fs) (drop 1 (drop i vs))) first-value
+      ∙ ap (λ us. fieldBytes (getD fs i Set) (getD vs i 0) ++ allFieldBytes (drop (i + 1) fs) us) other-values
+
+  pub map-first : (top : ℕ) → bitMap (drop i fs) (drop i vs) top ≡ bit (isWritten (getD fs i Set) (getD vs i 0)) + 2 * bitMap (drop (i + 1) fs) (drop (i + 1) vs) top
+  map-first top =
+      ap (λ gs. bitMap gs (drop i vs) top) (drop-more fs i Set h)
+      ∙ ap (λ v. bit (isWritten (getD fs i Set) v) + 2 * bitMap (drop (i + 1) fs) (drop 1 (drop i vs)) top) first-value
+      ∙ ap (λ us. bit (isWritten (getD fs i Set) (getD vs i 0)) + 2 * bitMap (drop (i + 1) fs) us top) other-values
+
+  pub fields-more : allFieldBytes (take (i + 1) fs) vs ≡ allFieldBytes (take i fs) vs ++ fieldBytes (getD fs i Set) (getD vs i 0)
+  fields-more = append-cancel-right _ _ (allFieldBytes (drop (i + 1) fs) (drop (i + 1) vs))
+      (sym (fields-split fs vs (i + 1)) ∙ fields-split fs vs i ∙ ap (λ t. allFieldBytes (take i fs) vs ++ t) fields-first ∙ sym (append-assoc (allFieldBytes (take i fs) vs) (fieldBytes (getD fs i Set) (getD vs i 0)) (allFieldBytes (drop (i + 1) fs) (drop (i + 1) vs))))
+
+pub fields-few : (k : Kind) (p : Part) → length (fieldsOf k p) ≤ 4
+fields-few Card Action = omega arith
+fields-few Card Goal = omega arith
+fields-few Map Action = omega arith
+fields-few Map Goal = omega arith
+
+-- a bit map takes one byte
+pub map-byte : (fs : List Field) (vs : List ℕ) (i top : ℕ) → length fs ≤ 4 → top ≤ 1 → bitMap (drop i fs) (drop i vs) top < 64
+map-byte fs vs i top few low =
+    let low : top < 2 ^ 1 = omega arith in
+    let narrow : 2 ^ (length (drop i fs) + 1) ≤ 2 ^ 5 = pow-le-pow-right {n = 2} (omega arith) {i = length (drop i fs) + 1} {j = 5} (omega (arith, length-drop i fs)) in
+    omega (arith, map-below (drop i fs) (drop i vs) top 1 low)
