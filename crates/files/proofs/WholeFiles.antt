@@ -17,7 +17,7 @@ use Rattle.files.specs.declared.kind.Kind.{Kind}
 use Rattle.files.specs.declared.kind.Kind.the-variants.{Card, Map}
 use Rattle.files.specs.declared.kind.Part.the-variants.{Action, Goal}
 use Rattle.files.specs.declared.header.Header.{Header}
-use Rattle.files.specs.Contents.{Entry, File, RawFile, recordBytes, headerBytes, fileBytes, ValidEntry, ValidFile}
+use Rattle.files.specs.Contents.{Entry, File, RawFile, recordBytes, fileBytes, ValidEntry, ValidFile}
 use Rattle.files.specs.Exact.{ReadExactly}
 use Rattle.files.specs.Formats.{bytesOf, limitOf, letterOf, mostOf, startOf, headerLength}
 use Rattle.files.specs.Numbers.{Bytes, spelled}

@@ -58,11 +58,14 @@ markBit p e = bit (isMarkable p && e .marked)
 abbrev pub recordBytes : Kind → Part → Entry → List ℕ
 recordBytes k p e = bitMap (fieldsOf k p) (e .values) (markBit p e) ∷ allFieldBytes (fieldsOf k p) (e .values)
 
-abbrev pub headerBytes : Kind → RawFile → List ℕ
-headerBytes k f = letterOf k ∷ (spelled 1 (f .size) ++ (spelled 1 (length (f .actions)) ++ (spelled 1 (length (f .goals)) ++ spelled (bytesOf (startOf k)) (f .start))))
+-- the letter, the counts of fluents or places, actions and goals, and the start
+abbrev pub headerBytes : Kind → ℕ → ℕ → ℕ → ℕ → List ℕ
+headerBytes k size actions goals start = letterOf k ∷ (spelled 1 size ++ (spelled 1 actions ++ (spelled 1 goals ++ spelled (bytesOf (startOf k)) start)))
 
 abbrev pub fileBytes : Kind → RawFile → List ℕ
-fileBytes k f = headerBytes k f ++ (joined (recordBytes k Action) (f .actions) ++ joined (recordBytes k Goal) (f .goals))
+fileBytes k f =
+    headerBytes k (f .size) (length (f .actions)) (length (f .goals)) (f .start)
+    ++ (joined (recordBytes k Action) (f .actions) ++ joined (recordBytes k Goal) (f .goals))
 
 -- The files that there can be.
 

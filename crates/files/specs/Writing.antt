@@ -2,7 +2,7 @@
 use mathlib.Core.Path.{_≡_}
 use mathlib.Core.Bool.{cond}
 use mathlib.Core.List.{List, _++_, map}
-use Prim.Native.Nat.{ℕ, _+_}
+use Prim.Native.Nat.{ℕ, _+_, _-_}
 use lib.Dec.{leb}
 use lib.ListN.{length, take, drop}
 use Rattle.std.specs.declared.option.Option.{Option}
@@ -11,6 +11,7 @@ use Rattle.std.specs.declared.result.Result.{Result}
 use Rattle.std.specs.declared.result.Result.the-variants.{Ok, Err}
 use Rattle.files.specs.declared.fault.WriteFault.{WriteFault}
 use Rattle.files.specs.declared.fault.WriteFault.the-variants.{Place}
+use Rattle.files.specs.Contents.{Entry, RawFile}
 
 -- the answer: how many bytes were written, or that the place is too short
 abbrev pub writeOutcome : List ℕ → List ℕ → Result ℕ WriteFault
@@ -25,3 +26,11 @@ pub record Wrote (bytes : List ℕ) (at : ℕ) (before after : List ℕ) (next :
   pub end : next ≡ at + length bytes
   pub front : take next after ≡ take at before ++ bytes
   pub back : drop next after ≡ drop next before
+
+-- how much room is left after bytes, if they fit
+abbrev pub roomAfter : List ℕ → ℕ → Option ℕ
+roomAfter bytes room = cond (leb (length bytes) room) (Some (room - length bytes)) None
+
+-- a file whose parts are written by given entries
+abbrev pub rawOf : {S G : Type 0} → (S → Entry) → (G → Entry) → ℕ → ℕ → List S → List G → RawFile
+rawOf writtenS writtenG size start actions goals = record { size = size; start = start; actions = map writtenS actions; goals = map writtenG goals }

@@ -21,7 +21,7 @@ pub(crate) fn read_header(kind: Kind, bytes: &[u8]) -> Result<Header, ReadFault>
     if bytes.is_empty() || bytes[0] != kind.letter() {
         return Err(ReadFault::Letter(Position { record: 0, byte: 0 }));
     }
-    let end = 4 + kind.start().bytes();
+    let end = kind.header_length();
     if bytes.len() < end {
         return Err(ReadFault::Header(Position { record: 0, byte: bytes.len() }));
     }

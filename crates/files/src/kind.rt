@@ -1,6 +1,6 @@
 // The two kinds of domain file.
 ghost use mathlib.Core.Path.{_≡_};
-ghost use Rattle.files.specs.Formats.{letterOf, mostOf, startOf, fieldsOf, isMarkable, bitCount};
+ghost use Rattle.files.specs.Formats.{letterOf, mostOf, startOf, headerLength, fieldsOf, isMarkable, bitCount};
 use crate::field::Field;
 
 #[derive(Clone, Copy)]
@@ -56,6 +56,13 @@ impl Kind {
             Kind::Card => Field::Set,
             Kind::Map => Field::Place,
         }
+    }
+
+    // How many bytes stand before the records: the letter, three counts and the start.
+    pub(crate) fn header_length(self) -> usize
+        ensures { λ r. ⌜ r ≡ headerLength self ⌝ }
+    {
+        4 + self.start().bytes()
     }
 
     // The fields of a record, in the order of their bits.

@@ -9,4 +9,5 @@ pub mod read_file;
 pub mod read_record;
 pub mod record;
 pub mod room;
+pub mod write_file;
 pub mod write_record;

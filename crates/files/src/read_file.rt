@@ -56,7 +56,7 @@ fn read_into<S: Record, G: Record>(kind: Kind, bytes: &[u8], actions: &mut Vec<S
     let header = read_header(kind, bytes)?;
     let action_count = usize::from(header.actions);
     let goal_count = usize::from(header.goals);
-    let middle = read_parts(kind, Part::Action, header.size, bytes, action_count, 1, 4 + kind.start().bytes(), actions)?;
+    let middle = read_parts(kind, Part::Action, header.size, bytes, action_count, 1, kind.header_length(), actions)?;
     let end = read_parts(kind, Part::Goal, header.size, bytes, goal_count, 1 + action_count, middle, goals)?;
     if end != bytes.len() {
         return Err(ReadFault::End(Position { record: 1 + action_count + goal_count, byte: end }));
