@@ -1,4 +1,4 @@
--- What a field map means keeps the limits of every domain.
+-- A field map within its limits keeps those of every domain.
 use mathlib.Core.Path.{_≡_}
 use mathlib.Core.Bool.{false, _&&_}
 use mathlib.Core.Logic.{⊎-elim}
