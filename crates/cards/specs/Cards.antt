@@ -1,10 +1,11 @@
 -- What a card means as a planning domain, and the same in the words of fluents.
 use mathlib.Core.Path.{_≡_}
-use mathlib.Core.Bool.{Bool, true, false, cond, _||_, _&&_, not}
-use mathlib.Core.List.{List}
+use mathlib.Core.Bool.{Bool, false, cond, _||_, _&&_, not}
 use Prim.Native.Nat.{ℕ, _^_, _<_}
 use lib.ListN.{length, getD}
 use lib.Dec.{ltb}
+use Rattle.std.specs.Options.{Cases}
+use Rattle.std.specs.shelf.Maps.{nth}
 use Rattle.domain.specs.Meaning.{Meaning}
 use Rattle.cards.specs.declared.action.Action.{Action}
 use Rattle.cards.specs.declared.fluents.FluentSet.{FluentSet}
@@ -32,17 +33,18 @@ abbrev pub canRun : Contents → ℕ → ℕ → Bool
 canRun c s a = isState c s && (ltb a (length (c .actions)) && within (actionAt c a .needs .0) s)
 
 abbrev pub meaningOf : Contents → Meaning
-meaningOf c = record
-  { width = c .fluents
-  ; actions = length (c .actions)
-  ; goals = length (c .goals)
-  ; start = c .start .0
-  ; runs = canRun c
-  ; next = λ s a. cond (canRun c s a) (changed s (actionAt c a .deletes .0) (actionAt c a .adds .0)) s
-  ; cost = λ a. actionAt c a .cost
-  ; marked = λ a. actionAt c a .marked
-  ; meets = λ s g. isState c s && (ltb g (length (c .goals)) && within (goalAt c g .0) s)
-  ; complete = isState c }
+meaningOf c = record {
+  width = c .fluents;
+  actions = length (c .actions);
+  goals = length (c .goals);
+  start = c .start .0;
+  runs = canRun c;
+  next = λ s a. cond (canRun c s a) (changed s (actionAt c a .deletes .0) (actionAt c a .adds .0)) s;
+  cost = λ a. actionAt c a .cost;
+  marked = λ a. actionAt c a .marked;
+  meets = λ s g. isState c s && (ltb g (length (c .goals)) && within (goalAt c g .0) s);
+  complete = isState c;
+}
 
 -- In the words of fluents.
 
@@ -57,3 +59,11 @@ After c s a t = (i : ℕ) → holds i t ≡ (holds i (actionAt c a .adds .0) || 
 -- a goal is met in a state when it is one of the card's and all its fluents hold
 abbrev pub Meets : Contents → ℕ → ℕ → Type 0
 Meets c s g = (s < 2 ^ c .fluents) × (g < length (c .goals)) × Within (goalAt c g .0) s
+
+-- the cost of the card's own action, and 0 where there is none of that number
+abbrev pub OwnCost : Contents → ℕ → ℕ → Type 0
+OwnCost c a r = Cases (nth (c .actions) a) (r ≡ 0) (λ own. r ≡ own .cost)
+
+-- its mark, and no where there is none
+abbrev pub OwnMark : Contents → ℕ → Bool → Type 0
+OwnMark c a r = Cases (nth (c .actions) a) (r ≡ false) (λ own. r ≡ own .marked)

@@ -1,6 +1,6 @@
 -- Sets of fluents as numbers: fluent i is in the set exactly when bit i of the number is 1.
 use mathlib.Core.Path.{_≡_}
-use mathlib.Core.Bool.{Bool, true, _||_, _&&_, not}
+use mathlib.Core.Bool.{Bool, true}
 use Prim.Native.Nat.{ℕ, _/_, _%_, _^_}
 use lib.Dec.{eqb}
 use lib.Bits.{bitAnd, bitOr, bitXor}

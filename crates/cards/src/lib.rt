@@ -3,3 +3,4 @@ pub mod action;
 pub mod card;
 pub mod card_domain;
 pub mod fluents;
+pub mod parts;
