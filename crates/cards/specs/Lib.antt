@@ -1,3 +1,4 @@
+pub mod CardFiles
 pub mod Cards
 pub mod Contents
 pub mod Fluents

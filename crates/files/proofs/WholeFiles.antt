@@ -149,7 +149,7 @@ module _ (k : Kind) (f : RawFile) (valid : ValidFile k f) where
       ∙ ap (λ n. Ok (record { size = f .size; actions = length (f .actions); goals = n; start = valueAt bs 4 (startOf k) })) goals
       ∙ ap (λ n. Ok (record { size = f .size; actions = length (f .actions); goals = length (f .goals); start = n })) start
 
-  file-written : readFile k (fileBytes k f) ≡ Ok f
+  pub file-written : readFile k (fileBytes k f) ≡ Ok f
   file-written =
       let bs = fileBytes k f in
       let xs = joined (recordBytes k Action) (f .actions) in

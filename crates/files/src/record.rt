@@ -20,3 +20,13 @@ pub trait Record: Sized {
     fn is_marked(&self) -> bool
         ensures { λ r. ⌜ r ≡ written (now (self .entry)) .marked ⌝ };
 }
+
+// The value of a field, and 0 where there is none.
+pub fn value_at(values: &[u64], field: usize) -> u64
+    ensures { λ r. ⌜ r ≡ getD (now (values .entry)) field 0 ⌝ }
+{
+    match values.get(field) {
+        Some(value) => *value,
+        None => 0,
+    }
+}
