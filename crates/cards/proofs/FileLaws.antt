@@ -50,10 +50,10 @@ goal-read n (a ∷ (b ∷ vs)) m v = absurd (v .0 .1)
 
 converts : Converts kind.Card entryAction actionEntry entryGoal goalEntry ActionAmong Among
 converts = record
-  { action-read = λ n e. action-read n (e .values) (e .marked)
-  ; action-written = action-written
-  ; goal-read = λ n e. goal-read n (e .values) (e .marked)
-  ; goal-written = λ n set h. (((h, tt), refl), refl) }
+  { action-read = λ n _ e. action-read n (e .values) (e .marked)
+  ; action-written = λ n _. action-written n
+  ; goal-read = λ n _ e. goal-read n (e .values) (e .marked)
+  ; goal-written = λ n _ set h. (((h, tt), refl), refl) }
 
 -- the limits of a card are those of its file
 abbrev Parts : File Action FluentSet → Type 0

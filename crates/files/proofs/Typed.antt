@@ -32,10 +32,10 @@ module _ {X Y : Type 0} (P : X → Type 0) (Q : Y → Type 0) (f : X → Y) (g :
 -- S stands for the actions' records and G for the goals'; Good says which ones a domain of a size may have
 module _ {S G : Type 0} (k : Kind) (makeS : Entry → S) (entryS : S → Entry) (makeG : Entry → G) (entryG : G → Entry) (GoodS : ℕ → S → Type 0) (GoodG : ℕ → G → Type 0) where
   pub record Converts : Type 0 where
-    pub action-read : (n : ℕ) (e : Entry) → ValidEntry k Action n e → GoodS n (makeS e) × (entryS (makeS e) ≡ e)
-    pub action-written : (n : ℕ) (x : S) → GoodS n x → ValidEntry k Action n (entryS x) × (makeS (entryS x) ≡ x)
-    pub goal-read : (n : ℕ) (e : Entry) → ValidEntry k Goal n e → GoodG n (makeG e) × (entryG (makeG e) ≡ e)
-    pub goal-written : (n : ℕ) (x : G) → GoodG n x → ValidEntry k Goal n (entryG x) × (makeG (entryG x) ≡ x)
+    pub action-read : (n : ℕ) → n ≤ mostOf k → (e : Entry) → ValidEntry k Action n e → GoodS n (makeS e) × (entryS (makeS e) ≡ e)
+    pub action-written : (n : ℕ) → n ≤ mostOf k → (x : S) → GoodS n x → ValidEntry k Action n (entryS x) × (makeS (entryS x) ≡ x)
+    pub goal-read : (n : ℕ) → n ≤ mostOf k → (e : Entry) → ValidEntry k Goal n e → GoodG n (makeG e) × (entryG (makeG e) ≡ e)
+    pub goal-written : (n : ℕ) → n ≤ mostOf k → (x : G) → GoodG n x → ValidEntry k Goal n (entryG x) × (makeG (entryG x) ≡ x)
 
   pub record ValidParts (f : File S G) : Type 0 where
     pub size-low : 1 ≤ f .size
@@ -71,10 +71,10 @@ module _ {S G : Type 0} (k : Kind) (makeS : Entry → S) (entryS : S → Entry) 
           ; goals-low = omega (arith, length-map (f .goals) makeG, v .goals-low)
           ; goals-high = omega (arith, length-map (f .goals) makeG, v .goals-high)
           ; start-in = v .start-in
-          ; actions-good = all-there (ValidEntry k Action n) (GoodS n) makeS entryS (c .action-read n) (f .actions) (v .actions-valid)
-          ; goals-good = all-there (ValidEntry k Goal n) (GoodG n) makeG entryG (c .goal-read n) (f .goals) (v .goals-valid) }
-        , ap (λ xs. record { size = n; start = f .start; actions = xs; goals = map entryG (map makeG (f .goals)) }) (all-back (ValidEntry k Action n) (GoodS n) makeS entryS (c .action-read n) (f .actions) (v .actions-valid))
-          ∙ ap (λ ys. record { size = n; start = f .start; actions = f .actions; goals = ys }) (all-back (ValidEntry k Goal n) (GoodG n) makeG entryG (c .goal-read n) (f .goals) (v .goals-valid)) )
+          ; actions-good = all-there (ValidEntry k Action n) (GoodS n) makeS entryS (c .action-read n (v .size-high)) (f .actions) (v .actions-valid)
+          ; goals-good = all-there (ValidEntry k Goal n) (GoodG n) makeG entryG (c .goal-read n (v .size-high)) (f .goals) (v .goals-valid) }
+        , ap (λ xs. record { size = n; start = f .start; actions = xs; goals = map entryG (map makeG (f .goals)) }) (all-back (ValidEntry k Action n) (GoodS n) makeS entryS (c .action-read n (v .size-high)) (f .actions) (v .actions-valid))
+          ∙ ap (λ ys. record { size = n; start = f .start; actions = f .actions; goals = ys }) (all-back (ValidEntry k Goal n) (GoodG n) makeG entryG (c .goal-read n (v .size-high)) (f .goals) (v .goals-valid)) )
 
     typed-bare : (f : File S G) → ValidParts f → ValidFile k (bare f) × (typed (bare f) ≡ f)
     typed-bare f v =
@@ -87,10 +87,10 @@ module _ {S G : Type 0} (k : Kind) (makeS : Entry → S) (entryS : S → Entry) 
           ; goals-low = omega (arith, length-map (f .goals) entryG, v .goals-low)
           ; goals-high = omega (arith, length-map (f .goals) entryG, v .goals-high)
           ; start-in = v .start-in
-          ; actions-valid = all-there (GoodS n) (ValidEntry k Action n) entryS makeS (c .action-written n) (f .actions) (v .actions-good)
-          ; goals-valid = all-there (GoodG n) (ValidEntry k Goal n) entryG makeG (c .goal-written n) (f .goals) (v .goals-good) }
-        , ap (λ xs. record { size = n; start = f .start; actions = xs; goals = map makeG (map entryG (f .goals)) }) (all-back (GoodS n) (ValidEntry k Action n) entryS makeS (c .action-written n) (f .actions) (v .actions-good))
-          ∙ ap (λ ys. record { size = n; start = f .start; actions = f .actions; goals = ys }) (all-back (GoodG n) (ValidEntry k Goal n) entryG makeG (c .goal-written n) (f .goals) (v .goals-good)) )
+          ; actions-valid = all-there (GoodS n) (ValidEntry k Action n) entryS makeS (c .action-written n (v .size-high)) (f .actions) (v .actions-good)
+          ; goals-valid = all-there (GoodG n) (ValidEntry k Goal n) entryG makeG (c .goal-written n (v .size-high)) (f .goals) (v .goals-good) }
+        , ap (λ xs. record { size = n; start = f .start; actions = xs; goals = map makeG (map entryG (f .goals)) }) (all-back (GoodS n) (ValidEntry k Action n) entryS makeS (c .action-written n (v .size-high)) (f .actions) (v .actions-good))
+          ∙ ap (λ ys. record { size = n; start = f .start; actions = f .actions; goals = ys }) (all-back (GoodG n) (ValidEntry k Goal n) entryG makeG (c .goal-written n (v .size-high)) (f .goals) (v .goals-good)) )
 
     pub parts-read : (bs : List ℕ) → ReadExactly k bs → (f : File S G) → fileWith makeS makeG (readFile k bs) ≡ Ok f → ValidParts f × (bs ≡ fileBytes k (bare f))
     parts-read bs exact f e =

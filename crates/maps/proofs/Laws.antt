@@ -11,7 +11,7 @@ use Rattle.std.proofs.shelf.Tests.{and-left, and-parts, cases-lt, cond-both, co
 use Rattle.std.proofs.shelf.Ways.{tells}
 use Rattle.domain.specs.Meaning.{Limits}
 use Rattle.maps.specs.Contents.{Contents, InLimits, contents}
-use Rattle.maps.specs.Maps.{no-move, canRun, meaningOf}
+use Rattle.maps.specs.Maps.{first-place, no-move, canRun, meaningOf}
 use Rattle.maps.specs.declared.field_map.FieldMap.{FieldMap}
 
 -- a test for one of n places finds none from n on
@@ -32,7 +32,7 @@ limits c l = record {
   cost-high = λ a. ⊎-elim (λ h. l .moves-among a no-move h .2) (λ (h : length (c .moves) ≤ a). rw getD-past (lit≤ tt)) (cases-lt a (length (c .moves)));
   next-same = λ s a e. cond-false (canRun c s a) _ s e;
   runs-no-state = λ s a h. elsewhere a _ (c .places) _ s (λ h. l .moves-among a no-move h .0) (omega arith);
-  meets-no-state = λ s g h. elsewhere g _ (c .places) _ s (l .goals-among g 0) (omega arith);
+  meets-no-state = λ s g h. elsewhere g _ (c .places) _ s (l .goals-among g first-place) (omega arith);
   complete-no-state = λ s h. le-ltb s (2 ^ 6) h;
   runs-no-action = λ s a h. and-left _ _ (le-ltb a _ h);
   cost-no-action = λ a h. rw getD-past;

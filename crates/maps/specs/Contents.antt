@@ -1,17 +1,18 @@
 -- What a field map holds, apart from where it lies in memory.
 use mathlib.Core.List.{List}
-use Prim.Native.Nat.{ℕ, _≤_, _<_}
+use Prim.Native.Nat.{ℕ, _≤_}
 use lib.ListN.{length}
 use Rattle.std.specs.Of.Vec.{vec-items}
-use Rattle.maps.specs.Limits.{EveryMove, EveryGoal}
+use Rattle.maps.specs.Limits.{Among, EveryMove, EveryGoal}
 use Rattle.maps.specs.declared.field_map.FieldMap.{FieldMap}
 use Rattle.maps.specs.declared.moves.Move.{Move}
+use Rattle.maps.specs.declared.place.Place.{Place}
 
 pub record Contents : Type 0 where
   pub places : ℕ
-  pub start : ℕ
+  pub start : Place
   pub moves : List Move
-  pub goals : List ℕ
+  pub goals : List Place
 
 abbrev pub contents : FieldMap → Contents
 contents m = record { places = m .places; start = m .start; moves = vec-items (m .moves); goals = vec-items (m .goals) }
@@ -24,6 +25,6 @@ pub record InLimits (c : Contents) : Type 0 where
   pub moves-high : length (c .moves) ≤ 120
   pub goals-low : 1 ≤ length (c .goals)
   pub goals-high : length (c .goals) ≤ 32
-  pub start-among : c .start < c .places
+  pub start-among : Among (c .places) (c .start)
   pub moves-among : EveryMove (c .places) (c .moves)
   pub goals-among : EveryGoal (c .places) (c .goals)

@@ -1,3 +1,4 @@
 pub mod Contents
 pub mod Limits
+pub mod MapFiles
 pub mod Maps

@@ -26,9 +26,9 @@ pub impl Domain for FieldMap as FieldMapDomain {
 
     fn start(&self) -> u64
         ensures value { λ r. ⌜ r ≡ meaningOf (contents (now (self .entry))) .start ⌝ }
-        ensures own { λ r. ⌜ r ≡ now (self .entry) .start ⌝ }
+        ensures own { λ r. ⌜ r ≡ now (self .entry) .start .0 ⌝ }
     {
-        u64::from(self.start)
+        u64::from(self.start.0)
     }
 
     fn runs(&self, state: u64, action: u8) -> bool
@@ -37,18 +37,18 @@ pub impl Domain for FieldMap as FieldMapDomain {
         ensures elsewhere { λ r. ⌜ (now (self .entry) .places ≤ state → r ≡ false) ⌝ }
     {
         match self.moves.get(usize::from(action)) {
-            Some(m) => state == u64::from(m.from),
+            Some(m) => state == u64::from(m.from.0),
             None => false,
         }
     }
 
     fn next(&self, state: u64, action: u8) -> u64
         ensures value { λ r. ⌜ r ≡ meaningOf (contents (now (self .entry))) .next state action ⌝ }
-        ensures reaches { λ r. ⌜ (Runs (contents (now (self .entry))) state action → r ≡ moveAt (contents (now (self .entry))) action .to) ⌝ }
+        ensures reaches { λ r. ⌜ (Runs (contents (now (self .entry))) state action → r ≡ moveAt (contents (now (self .entry))) action .to .0) ⌝ }
         ensures stays { λ r. ⌜ ((Runs (contents (now (self .entry))) state action → ⊥) → r ≡ state) ⌝ }
     {
         match self.moves.get(usize::from(action)) {
-            Some(m) if state == u64::from(m.from) => u64::from(m.to),
+            Some(m) if state == u64::from(m.from.0) => u64::from(m.to.0),
             _ => state,
         }
     }
@@ -79,7 +79,7 @@ pub impl Domain for FieldMap as FieldMapDomain {
         ensures elsewhere { λ r. ⌜ (now (self .entry) .places ≤ state → r ≡ false) ⌝ }
     {
         match self.goals.get(usize::from(goal)) {
-            Some(place) => state == u64::from(*place),
+            Some(place) => state == u64::from(place.0),
             None => false,
         }
     }

@@ -4,6 +4,7 @@ ghost use Rattle.std.specs.shelf.Maps.{nth};
 ghost use Rattle.maps.specs.Contents.{contents};
 use crate::field_map::FieldMap;
 use crate::moves::Move;
+use crate::place::Place;
 
 impl FieldMap {
     // How many places there are.
@@ -21,7 +22,7 @@ impl FieldMap {
     }
 
     // The place of the goal of that number, if the map has one.
-    pub fn goal(&self, goal: u8) -> Option<u8>
+    pub fn goal(&self, goal: u8) -> Option<Place>
         ensures { λ r. ⌜ r ≡ nth (contents (now (self .entry)) .goals) goal ⌝ }
     {
         self.goals.get(usize::from(goal)).copied()
