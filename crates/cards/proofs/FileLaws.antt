@@ -49,11 +49,12 @@ goal-read n (a ∷ []) m v = (v .0 .0, ap (λ b. record { values = a ∷ []; mar
 goal-read n (a ∷ (b ∷ vs)) m v = absurd (v .0 .1)
 
 converts : Converts kind.Card entryAction actionEntry entryGoal goalEntry ActionAmong Among
-converts = record
-  { action-read = λ n _ e. action-read n (e .values) (e .marked)
-  ; action-written = λ n _. action-written n
-  ; goal-read = λ n _ e. goal-read n (e .values) (e .marked)
-  ; goal-written = λ n _ set h. (((h, tt), refl), refl) }
+converts = record {
+  action-read = λ n _ e. action-read n (e .values) (e .marked);
+  action-written = λ n _. action-written n;
+  goal-read = λ n _ e. goal-read n (e .values) (e .marked);
+  goal-written = λ n _ set h. (((h, tt), refl), refl);
+}
 
 -- the limits of a card are those of its file
 abbrev Parts : File Action FluentSet → Type 0
@@ -66,28 +67,30 @@ abbrev partsOf : Contents → File Action FluentSet
 partsOf c = record { size = c .fluents; start = c .start .0; actions = c .actions; goals = c .goals }
 
 limits-read : (f : File Action FluentSet) → Parts f → InLimits (cardOf f)
-limits-read f v = record
-  { fluents-low = v .size-low
-  ; fluents-high = v .size-high
-  ; actions-low = v .actions-low
-  ; actions-high = v .actions-high
-  ; goals-low = v .goals-low
-  ; goals-high = v .goals-high
-  ; start-among = v .start-in
-  ; actions-among = λ k d h. all-getD (ActionAmong (f .size)) (f .actions) k d h (v .actions-good)
-  ; goals-among = λ k d h. all-getD (Among (f .size)) (f .goals) k d h (v .goals-good) }
+limits-read f v = record {
+  fluents-low = v .size-low;
+  fluents-high = v .size-high;
+  actions-low = v .actions-low;
+  actions-high = v .actions-high;
+  goals-low = v .goals-low;
+  goals-high = v .goals-high;
+  start-among = v .start-in;
+  actions-among = λ k d h. all-getD (ActionAmong (f .size)) (f .actions) k d h (v .actions-good);
+  goals-among = λ k d h. all-getD (Among (f .size)) (f .goals) k d h (v .goals-good);
+}
 
 limits-written : (c : Contents) → InLimits c → Parts (partsOf c)
-limits-written c l = record
-  { size-low = l .fluents-low
-  ; size-high = l .fluents-high
-  ; actions-low = l .actions-low
-  ; actions-high = l .actions-high
-  ; goals-low = l .goals-low
-  ; goals-high = l .goals-high
-  ; start-in = l .start-among
-  ; actions-good = all-from-getD (ActionAmong (c .fluents)) (c .actions) no-action (λ k h. l .actions-among k no-action h)
-  ; goals-good = all-from-getD (Among (c .fluents)) (c .goals) empty-set (λ k h. l .goals-among k empty-set h) }
+limits-written c l = record {
+  size-low = l .fluents-low;
+  size-high = l .fluents-high;
+  actions-low = l .actions-low;
+  actions-high = l .actions-high;
+  goals-low = l .goals-low;
+  goals-high = l .goals-high;
+  start-in = l .start-among;
+  actions-good = all-from-getD (ActionAmong (c .fluents)) (c .actions) no-action (λ k h. l .actions-among k no-action h);
+  goals-good = all-from-getD (Among (c .fluents)) (c .goals) empty-set (λ k h. l .goals-among k empty-set h);
+}
 
 contents-ok : (r : Result (File Action FluentSet) ReadFault) (c : Contents) → asContents r ≡ Ok c → (f : File Action FluentSet) × (r ≡ Ok f) × (cardOf f ≡ c)
 contents-ok (Ok f) c e = (f, refl, ok-same _ c e)

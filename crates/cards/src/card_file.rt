@@ -68,7 +68,10 @@ pub impl Record for FluentSet as GoalRecord {
 
 impl Card {
     // The card that the bytes are the file of, in the room that is handed over. A refusal gives the room back.
-    pub fn read(bytes: &[u8], room: Room<Action, FluentSet>) -> Result<Card, Unread<Action, FluentSet>>
+    pub fn read(
+        bytes: &[u8],
+        room: Room<Action, FluentSet>,
+    ) -> Result<Card, Unread<Action, FluentSet>>
         ensures value { λ r. ⌜ outcome r ≡ readCard (now (bytes .entry)) ⌝ }
         ensures room { λ r. ⌜ refused r (λ u. SameRoom room (u .room)) ⌝ }
         ensures exact { λ _. ⌜ ReadExactly (now (bytes .entry)) ⌝ }
@@ -89,6 +92,13 @@ impl Card {
         ensures place { λ _. ⌜ now (place .exit) ≡ placeAfter (cardFile (contents (now (self .entry)))) (now (place .entry)) ⌝ }
         ensures again { λ _. ⌜ readCard (cardFile (contents (now (self .entry)))) ≡ Ok (contents (now (self .entry))) ⌝ }
     {
-        write_file(Kind::Card, self.fluents, self.start.bits(), self.actions.as_slice(), self.goals.as_slice(), place)
+        write_file(
+            Kind::Card,
+            self.fluents,
+            self.start.bits(),
+            self.actions.as_slice(),
+            self.goals.as_slice(),
+            place,
+        )
     }
 }

@@ -103,10 +103,11 @@ module _ (bs : List ℕ) (all : Bytes bs) (size r : ℕ) (some : 1 ≤ size) whe
       let whole : m ≡ bit (isOdd m) + 2 * (m / 2) = bit-whole (isOdd m) m refl in
       let high : m / 2 ≡ bitMap fs vs top = there .map in
       subst (FieldsRead bs size at m (f ∷ fs)) (rest .2)
-        (record
-          { in-range = (here .0, there .in-range)
-          ; map = omega arith
-          ; bytes = here .2 ∙ ap (λ t. fieldBytes f v ++ t) (there .bytes) ∙ sym (append-assoc (fieldBytes f v) (allFieldBytes fs vs) (drop end bs)) })
+      (record {
+        in-range = (here .0, there .in-range);
+        map = omega arith;
+        bytes = here .2 ∙ ap (λ t. fieldBytes f v ++ t) (there .bytes) ∙ sym (append-assoc (fieldBytes f v) (allFieldBytes fs vs) (drop end bs));
+      })
 
 -- One field that was written.
 length-if : (f : Field) (v : ℕ) (b : Bool) → length (cond b (spelled (bytesOf f) v) []) ≡ cond b (bytesOf f) 0

@@ -61,8 +61,9 @@ spelled-little (b ∷ bs) h =
 
 -- a number takes k bits exactly when nothing is left above them
 pub no-high-bits : (v k h : ℕ) → h ≡ v / 2 ^ k → Decides (eqb h 0) (v < 2 ^ k)
-no-high-bits v k h e =
-    ( (λ t.
+no-high-bits v k h e = (
+  (λ t.
       let z : v / 2 ^ k * 2 ^ k ≡ 0 = ap (λ n. n * 2 ^ k) (sym e ∙ eqb-true h 0 t) ∙ zero-mul (2 ^ k) in
-      omega (arith, shr-split v k, mod-below v (2 ^ k) (pow-pos k)))
-    , (λ l. eq-eqb h 0 (e ∙ div-eq-of-lt l)) )
+      omega (arith, shr-split v k, mod-below v (2 ^ k) (pow-pos k))),
+  (λ l. eq-eqb h 0 (e ∙ div-eq-of-lt l)),
+)

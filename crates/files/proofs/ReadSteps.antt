@@ -85,7 +85,7 @@ module _ {X : Type 0} (make : Entry → X) where
 
   pub parts-more : (k : Kind) (p : Part) (size : ℕ) (bs : List ℕ) (n i r at : ℕ) → i < n
       → partsWith make (readRecords k p size bs (n - i) (r + i) at)
-        ≡ then (partWith make (readRecord k p size bs (r + i) at)) (λ x. withFirst (x .0) (partsWith make (readRecords k p size bs (n - (i + 1)) (r + (i + 1)) (x .1))))
+      ≡ then (partWith make (readRecord k p size bs (r + i) at)) (λ x. withFirst (x .0) (partsWith make (readRecords k p size bs (n - (i + 1)) (r + (i + 1)) (x .1))))
   parts-more k p size bs n i r at h =
       let e : n - i ≡ suc (n - (i + 1)) = omega arith in
       ap (λ m. partsWith make (readRecords k p size bs m (r + i) at)) e

@@ -85,9 +85,10 @@ module _ (bs : List ℕ) (all : Bytes bs) (k : Kind) (p : Part) (size : ℕ) (so
       let mark = top-read k p vs top (subst (λ n. n < 2 ^ bitCount k p) (fields .map) small) in
       let map : m ≡ bitMap fs vs (bit (isMarkable p && isOdd top)) = fields .map ∙ ap (bitMap fs vs) (mark .0) in
       subst (RecordRead k p size bs at) (y .2)
-        (record
-          { valid = (fields .in-range, mark .1)
-          ; bytes = drop-more bs at 0 inside ∙ ap (λ n. n ∷ drop (at + 1) bs) map ∙ ap (λ t. bitMap fs vs (bit (isMarkable p && isOdd top)) ∷ t) (fields .bytes) })
+      (record {
+        valid = (fields .in-range, mark .1);
+        bytes = drop-more bs at 0 inside ∙ ap (λ n. n ∷ drop (at + 1) bs) map ∙ ap (λ t. bitMap fs vs (bit (isMarkable p && isOdd top)) ∷ t) (fields .bytes);
+      })
 
   pub record RecordsRead (n at : ℕ) (x : List Entry × ℕ) : Type 0 where
     pub valid : All (ValidEntry k p size) (x .0)
@@ -104,10 +105,11 @@ module _ (bs : List ℕ) (all : Bytes bs) (k : Kind) (p : Part) (size : ℕ) (so
       let here = record-read r at (one .0) (one .1) in
       let there = records-read n (r + 1) next (rest .0) (rest .1) in
       subst (RecordsRead (suc n) at) (rest .2)
-        (record
-          { valid = (here .valid, there .valid)
-          ; count = ap suc (there .count)
-          ; bytes = here .bytes ∙ ap (λ t. recordBytes k p entry ++ t) (there .bytes) ∙ sym (append-assoc (recordBytes k p entry) (joined (recordBytes k p) (rest .0 .0)) (drop (rest .0 .1) bs)) })
+      (record {
+        valid = (here .valid, there .valid);
+        count = ap suc (there .count);
+        bytes = here .bytes ∙ ap (λ t. recordBytes k p entry ++ t) (there .bytes) ∙ sym (append-assoc (recordBytes k p entry) (joined (recordBytes k p) (rest .0 .0)) (drop (rest .0 .1) bs));
+      })
 
 -- the limits of a domain fit the bytes of its fields
 set-narrow : (size : ℕ) → size ≤ 55 → 2 ^ size ≤ 256 ^ 7

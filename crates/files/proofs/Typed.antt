@@ -62,35 +62,39 @@ module _ {S G : Type 0} (k : Kind) (makeS : Entry → S) (entryS : S → Entry) 
   module _ (c : Converts) where
     bare-typed : (f : RawFile) → ValidFile k f → ValidParts (typed f) × (bare (typed f) ≡ f)
     bare-typed f v =
-        let n = f .size in
-        ( record
-          { size-low = v .size-low
-          ; size-high = v .size-high
-          ; actions-low = omega (arith, length-map (f .actions) makeS, v .actions-low)
-          ; actions-high = omega (arith, length-map (f .actions) makeS, v .actions-high)
-          ; goals-low = omega (arith, length-map (f .goals) makeG, v .goals-low)
-          ; goals-high = omega (arith, length-map (f .goals) makeG, v .goals-high)
-          ; start-in = v .start-in
-          ; actions-good = all-there (ValidEntry k Action n) (GoodS n) makeS entryS (c .action-read n (v .size-high)) (f .actions) (v .actions-valid)
-          ; goals-good = all-there (ValidEntry k Goal n) (GoodG n) makeG entryG (c .goal-read n (v .size-high)) (f .goals) (v .goals-valid) }
-        , ap (λ xs. record { size = n; start = f .start; actions = xs; goals = map entryG (map makeG (f .goals)) }) (all-back (ValidEntry k Action n) (GoodS n) makeS entryS (c .action-read n (v .size-high)) (f .actions) (v .actions-valid))
-          ∙ ap (λ ys. record { size = n; start = f .start; actions = f .actions; goals = ys }) (all-back (ValidEntry k Goal n) (GoodG n) makeG entryG (c .goal-read n (v .size-high)) (f .goals) (v .goals-valid)) )
+        let n = f .size in (
+          record {
+            size-low = v .size-low;
+            size-high = v .size-high;
+            actions-low = omega (arith, length-map (f .actions) makeS, v .actions-low);
+            actions-high = omega (arith, length-map (f .actions) makeS, v .actions-high);
+            goals-low = omega (arith, length-map (f .goals) makeG, v .goals-low);
+            goals-high = omega (arith, length-map (f .goals) makeG, v .goals-high);
+            start-in = v .start-in;
+            actions-good = all-there (ValidEntry k Action n) (GoodS n) makeS entryS (c .action-read n (v .size-high)) (f .actions) (v .actions-valid);
+            goals-good = all-there (ValidEntry k Goal n) (GoodG n) makeG entryG (c .goal-read n (v .size-high)) (f .goals) (v .goals-valid);
+          },
+          ap (λ xs. record { size = n; start = f .start; actions = xs; goals = map entryG (map makeG (f .goals)) }) (all-back (ValidEntry k Action n) (GoodS n) makeS entryS (c .action-read n (v .size-high)) (f .actions) (v .actions-valid))
+              ∙ ap (λ ys. record { size = n; start = f .start; actions = f .actions; goals = ys }) (all-back (ValidEntry k Goal n) (GoodG n) makeG entryG (c .goal-read n (v .size-high)) (f .goals) (v .goals-valid)),
+        )
 
     typed-bare : (f : File S G) → ValidParts f → ValidFile k (bare f) × (typed (bare f) ≡ f)
     typed-bare f v =
-        let n = f .size in
-        ( record
-          { size-low = v .size-low
-          ; size-high = v .size-high
-          ; actions-low = omega (arith, length-map (f .actions) entryS, v .actions-low)
-          ; actions-high = omega (arith, length-map (f .actions) entryS, v .actions-high)
-          ; goals-low = omega (arith, length-map (f .goals) entryG, v .goals-low)
-          ; goals-high = omega (arith, length-map (f .goals) entryG, v .goals-high)
-          ; start-in = v .start-in
-          ; actions-valid = all-there (GoodS n) (ValidEntry k Action n) entryS makeS (c .action-written n (v .size-high)) (f .actions) (v .actions-good)
-          ; goals-valid = all-there (GoodG n) (ValidEntry k Goal n) entryG makeG (c .goal-written n (v .size-high)) (f .goals) (v .goals-good) }
-        , ap (λ xs. record { size = n; start = f .start; actions = xs; goals = map makeG (map entryG (f .goals)) }) (all-back (GoodS n) (ValidEntry k Action n) entryS makeS (c .action-written n (v .size-high)) (f .actions) (v .actions-good))
-          ∙ ap (λ ys. record { size = n; start = f .start; actions = f .actions; goals = ys }) (all-back (GoodG n) (ValidEntry k Goal n) entryG makeG (c .goal-written n (v .size-high)) (f .goals) (v .goals-good)) )
+        let n = f .size in (
+          record {
+            size-low = v .size-low;
+            size-high = v .size-high;
+            actions-low = omega (arith, length-map (f .actions) entryS, v .actions-low);
+            actions-high = omega (arith, length-map (f .actions) entryS, v .actions-high);
+            goals-low = omega (arith, length-map (f .goals) entryG, v .goals-low);
+            goals-high = omega (arith, length-map (f .goals) entryG, v .goals-high);
+            start-in = v .start-in;
+            actions-valid = all-there (GoodS n) (ValidEntry k Action n) entryS makeS (c .action-written n (v .size-high)) (f .actions) (v .actions-good);
+            goals-valid = all-there (GoodG n) (ValidEntry k Goal n) entryG makeG (c .goal-written n (v .size-high)) (f .goals) (v .goals-good);
+          },
+          ap (λ xs. record { size = n; start = f .start; actions = xs; goals = map makeG (map entryG (f .goals)) }) (all-back (GoodS n) (ValidEntry k Action n) entryS makeS (c .action-written n (v .size-high)) (f .actions) (v .actions-good))
+              ∙ ap (λ ys. record { size = n; start = f .start; actions = f .actions; goals = ys }) (all-back (GoodG n) (ValidEntry k Goal n) entryG makeG (c .goal-written n (v .size-high)) (f .goals) (v .goals-good)),
+        )
 
     pub parts-read : (bs : List ℕ) → ReadExactly k bs → (f : File S G) → fileWith makeS makeG (readFile k bs) ≡ Ok f → ValidParts f × (bs ≡ fileBytes k (bare f))
     parts-read bs exact f e =

@@ -46,14 +46,15 @@ header-read k bs h e =
     let goals = passed _ _ _ h (actions .1) in
     let start = passed _ _ _ h (goals .1) in
     subst (HeaderRead k bs) (ok-same _ h (start .1))
-      (record
-        { letter = eqb-true (getD bs 0 0) (letterOf k) (letter .0)
-        ; long = leb-true (headerLength k) (length bs) (long .0)
-        ; size-count = size .0
-        ; action-count = actions .0
-        ; goal-count = goals .0
-        ; start-in = ltb-true (valueAt bs 4 (startOf k)) (limitOf (getD bs 1 0) (startOf k)) (start .0)
-        ; is = refl })
+    (record {
+      letter = eqb-true (getD bs 0 0) (letterOf k) (letter .0);
+      long = leb-true (headerLength k) (length bs) (long .0);
+      size-count = size .0;
+      action-count = actions .0;
+      goal-count = goals .0;
+      start-in = ltb-true (valueAt bs 4 (startOf k)) (limitOf (getD bs 1 0) (startOf k)) (start .0);
+      is = refl;
+    })
 
 count-parts : (most n : ℕ) → isCount most n ≡ true → (1 ≤ n) × (n ≤ most)
 count-parts most n e = let p = and-parts _ _ e in (leb-true 1 n (p .0), leb-true n most (p .1))
@@ -102,23 +103,25 @@ file-read k bs all f e =
     let records : drop (headerLength k) bs ≡ joined (recordBytes k Action) (x .0) ++ joined (recordBytes k Goal) (y .0) = xs .bytes ∙ ap (λ t. joined (recordBytes k Action) (x .0) ++ t) (ys .bytes ∙ ap (λ t. joined (recordBytes k Goal) (y .0) ++ t) nothing ∙ append-nil (joined (recordBytes k Goal) (y .0))) in
     let rest : drop 4 bs ≡ spelled (bytesOf (startOf k)) (h .start) ++ (joined (recordBytes k Action) (x .0) ++ joined (recordBytes k Goal) (y .0)) = value-read bs 4 (startOf k) all (head .long) ∙ ap (λ h. spelled (bytesOf (startOf k)) (h .start) ++ drop (headerLength k) bs) is ∙ ap (λ t. spelled (bytesOf (startOf k)) (h .start) ++ t) records in
     let P : RawFile → Type 0 = λ f. ValidFile k f × (bs ≡ fileBytes k f) in
-    subst P (ok-same _ f (ended .1))
-      ( record
-        { size-low = sizes .0
-        ; size-high = sizes .1
-        ; actions-low = omega (arith, xs .count, actions .0)
-        ; actions-high = omega (arith, xs .count, actions .1)
-        ; goals-low = omega (arith, ys .count, goals .0)
-        ; goals-high = omega (arith, ys .count, goals .1)
-        ; start-in = head .start-in
-        ; actions-valid = xs .valid
-        ; goals-valid = ys .valid }
-      , front bs (omega (arith, header-long k, head .long))
-        ∙ ap (λ b. b ∷ (getD bs 1 0 ∷ (getD bs 2 0 ∷ (getD bs 3 0 ∷ drop 4 bs)))) letter
-        ∙ ap (λ b. letterOf k ∷ (b ∷ (getD bs 2 0 ∷ (getD bs 3 0 ∷ drop 4 bs)))) size
-        ∙ ap (λ b. letterOf k ∷ (h .size % 256 ∷ (b ∷ (getD bs 3 0 ∷ drop 4 bs)))) some
-        ∙ ap (λ b. letterOf k ∷ (h .size % 256 ∷ (length (x .0) % 256 ∷ (b ∷ drop 4 bs)))) more
-        ∙ ap (λ t. letterOf k ∷ (h .size % 256 ∷ (length (x .0) % 256 ∷ (length (y .0) % 256 ∷ t)))) rest )
+    subst P (ok-same _ f (ended .1)) (
+      record {
+        size-low = sizes .0;
+        size-high = sizes .1;
+        actions-low = omega (arith, xs .count, actions .0);
+        actions-high = omega (arith, xs .count, actions .1);
+        goals-low = omega (arith, ys .count, goals .0);
+        goals-high = omega (arith, ys .count, goals .1);
+        start-in = head .start-in;
+        actions-valid = xs .valid;
+        goals-valid = ys .valid;
+      },
+      front bs (omega (arith, header-long k, head .long))
+          ∙ ap (λ b. b ∷ (getD bs 1 0 ∷ (getD bs 2 0 ∷ (getD bs 3 0 ∷ drop 4 bs)))) letter
+          ∙ ap (λ b. letterOf k ∷ (b ∷ (getD bs 2 0 ∷ (getD bs 3 0 ∷ drop 4 bs)))) size
+          ∙ ap (λ b. letterOf k ∷ (h .size % 256 ∷ (b ∷ (getD bs 3 0 ∷ drop 4 bs)))) some
+          ∙ ap (λ b. letterOf k ∷ (h .size % 256 ∷ (length (x .0) % 256 ∷ (b ∷ drop 4 bs)))) more
+          ∙ ap (λ t. letterOf k ∷ (h .size % 256 ∷ (length (x .0) % 256 ∷ (length (y .0) % 256 ∷ t)))) rest,
+    )
 
 start-narrow : (k : Kind) (size : ℕ) → size ≤ mostOf k → limitOf size (startOf k) ≤ 256 ^ bytesOf (startOf k)
 start-narrow Card size h = narrow Card Goal size h .0
@@ -165,6 +168,7 @@ module _ (k : Kind) (f : RawFile) (valid : ValidFile k f) where
       ∙ cond-true _ _ _ (eq-eqb (from + length xs + length ys) (length bs) end)
 
 pub read-exactly : (k : Kind) (bs : List ℕ) → Bytes bs → ReadExactly k bs
-read-exactly k bs all = record
-  { only = λ f e. file-read k bs all f e
-  ; every = λ f valid e. ap (readFile k) e ∙ file-written k f valid }
+read-exactly k bs all = record {
+  only = λ f e. file-read k bs all f e;
+  every = λ f valid e. ap (readFile k) e ∙ file-written k f valid;
+}

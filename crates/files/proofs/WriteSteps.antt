@@ -36,10 +36,11 @@ wrote-byte at b place h = record { end = refl; front = take-more-set place at b 
 
 -- one part after another
 pub wrote-then : (xs ys : List ℕ) (at mid next : ℕ) (p q r : List ℕ) → Wrote xs at p q mid → Wrote ys mid q r next → Wrote (xs ++ ys) at p r next
-wrote-then xs ys at mid next p q r one two = record
-  { end = omega (arith, one .end, two .end, length-append xs ys)
-  ; front = two .front ∙ ap (λ t. t ++ ys) (one .front) ∙ append-assoc (take at p) xs ys
-  ; back = two .back ∙ after q ∙ ap (drop (length ys)) (one .back) ∙ sym (after p) }
+wrote-then xs ys at mid next p q r one two = record {
+  end = omega (arith, one .end, two .end, length-append xs ys);
+  front = two .front ∙ ap (λ t. t ++ ys) (one .front) ∙ append-assoc (take at p) xs ys;
+  back = two .back ∙ after q ∙ ap (drop (length ys)) (one .back) ∙ sym (after p);
+}
   where
     after : (s : List ℕ) → drop next s ≡ drop (length ys) (drop mid s)
     after s = ap (λ n. drop n s) (two .end) ∙ sym (drop-drop (length ys) mid s)
@@ -189,9 +190,10 @@ file-length k f =
 pub wrote-all : (bytes place after : List ℕ) (end : ℕ) → length bytes ≤ length place → Wrote bytes 0 place after end → (Ok end ≡ writeOutcome bytes place) × (after ≡ placeAfter bytes place)
 wrote-all bytes place after end h w =
     let fits = le-leb (length bytes) (length place) h in
-    let long : end ≡ length bytes = omega (arith, w .end) in
-    ( ap Ok long ∙ sym (cond-true _ _ _ fits)
-    , sym (take-append-drop end after)
-      ∙ ap (λ t. t ++ drop end after) (w .front)
-      ∙ ap (λ t. bytes ++ t) (w .back ∙ ap (λ n. drop n place) long)
-      ∙ sym (cond-true _ _ _ fits) )
+    let long : end ≡ length bytes = omega (arith, w .end) in (
+      ap Ok long ∙ sym (cond-true _ _ _ fits),
+      sym (take-append-drop end after)
+          ∙ ap (λ t. t ++ drop end after) (w .front)
+          ∙ ap (λ t. bytes ++ t) (w .back ∙ ap (λ n. drop n place) long)
+          ∙ sym (cond-true _ _ _ fits),
+    )

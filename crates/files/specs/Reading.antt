@@ -68,10 +68,10 @@ abbrev pub readRecord : Kind → Part → ℕ → List ℕ → ℕ → ℕ → R
 readRecord k p size bs r at =
     cond (ltb at (length bs))
     (cond (ltb (getD bs at 0) (2 ^ bitCount k p))
-     (cond (leb (at + 1 + sizeOf (getD bs at 0) (fieldsOf k p)) (length bs))
-      (asEntry (readFields bs size r (at + 1) (getD bs at 0) (fieldsOf k p)))
-      (Err (fault.Cut (position r (length bs)))))
-     (Err (fault.Bits (position r at))))
+    (cond (leb (at + 1 + sizeOf (getD bs at 0) (fieldsOf k p)) (length bs))
+    (asEntry (readFields bs size r (at + 1) (getD bs at 0) (fieldsOf k p)))
+    (Err (fault.Cut (position r (length bs)))))
+    (Err (fault.Bits (position r at))))
     (Err (fault.Cut (position r (length bs))))
 
 -- values that stand in a place of their own, made an entry with the mark that was read
@@ -93,16 +93,16 @@ abbrev pub readHeader : Kind → List ℕ → Result Header ReadFault
 readHeader k bs =
     cond (eqb (getD bs 0 0) (letterOf k))
     (cond (leb (headerLength k) (length bs))
-     (cond (isCount (mostOf k) (getD bs 1 0))
-      (cond (isCount 120 (getD bs 2 0))
-       (cond (isCount 32 (getD bs 3 0))
-        (cond (ltb (valueAt bs 4 (startOf k)) (limitOf (getD bs 1 0) (startOf k)))
-         (Ok (record { size = getD bs 1 0; actions = getD bs 2 0; goals = getD bs 3 0; start = valueAt bs 4 (startOf k) }))
-         (Err (fault.Start (position 0 4))))
-        (Err (fault.Count (position 0 3))))
-       (Err (fault.Count (position 0 2))))
-      (Err (fault.Count (position 0 1))))
-     (Err (fault.Header (position 0 (length bs)))))
+    (cond (isCount (mostOf k) (getD bs 1 0))
+    (cond (isCount 120 (getD bs 2 0))
+    (cond (isCount 32 (getD bs 3 0))
+    (cond (ltb (valueAt bs 4 (startOf k)) (limitOf (getD bs 1 0) (startOf k)))
+    (Ok (record { size = getD bs 1 0; actions = getD bs 2 0; goals = getD bs 3 0; start = valueAt bs 4 (startOf k) }))
+    (Err (fault.Start (position 0 4))))
+    (Err (fault.Count (position 0 3))))
+    (Err (fault.Count (position 0 2))))
+    (Err (fault.Count (position 0 1))))
+    (Err (fault.Header (position 0 (length bs)))))
     (Err (fault.Letter (position 0 0)))
 
 -- the records after a header, and nothing after them

@@ -23,7 +23,10 @@ pub(crate) fn read_header(kind: Kind, bytes: &[u8]) -> Result<Header, ReadFault>
     }
     let end = kind.header_length();
     if bytes.len() < end {
-        return Err(ReadFault::Header(Position { record: 0, byte: bytes.len() }));
+        return Err(ReadFault::Header(Position {
+            record: 0,
+            byte: bytes.len(),
+        }));
     }
     let size = bytes[1];
     if size < 1 || size > kind.most() {
@@ -41,5 +44,10 @@ pub(crate) fn read_header(kind: Kind, bytes: &[u8]) -> Result<Header, ReadFault>
     if !kind.start().in_range(size, start) {
         return Err(ReadFault::Start(Position { record: 0, byte: 4 }));
     }
-    Ok(Header { size, actions, goals, start })
+    Ok(Header {
+        size,
+        actions,
+        goals,
+        start,
+    })
 }

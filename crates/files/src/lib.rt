@@ -1,13 +1,13 @@
 // Domain files: the two formats, read and written by one set of functions.
 pub mod fault;
-pub mod field;
+mod field;
 pub mod file;
-pub mod header;
+mod header;
 pub mod kind;
-pub mod numbers;
+mod numbers;
 pub mod read_file;
-pub mod read_record;
+mod read_record;
 pub mod record;
 pub mod room;
 pub mod write_file;
-pub mod write_record;
+mod write_record;

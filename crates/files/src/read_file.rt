@@ -20,7 +20,14 @@ use crate::record::Record;
 use crate::room::Room;
 
 // What a record stands for, and the byte after it.
-fn read_part<R: Record>(kind: Kind, part: Part, size: u8, bytes: &[u8], record: usize, at: usize) -> Result<(R, usize), ReadFault>
+fn read_part<R: Record>(
+    kind: Kind,
+    part: Part,
+    size: u8,
+    bytes: &[u8],
+    record: usize,
+    at: usize,
+) -> Result<(R, usize), ReadFault>
     ensures { λ r. ⌜ r ≡ partWith made (readRecord kind part size (now (bytes .entry)) «record» at) ⌝ }
 {
     let mut values = [0u64; 4];
@@ -30,7 +37,16 @@ fn read_part<R: Record>(kind: Kind, part: Part, size: u8, bytes: &[u8], record: 
 }
 
 // What as many records as count says stand for, from the first on; the answer is the byte after them.
-fn read_parts<R: Record>(kind: Kind, part: Part, size: u8, bytes: &[u8], count: usize, first: usize, from: usize, room: &mut Vec<R>) -> Result<usize, ReadFault>
+fn read_parts<R: Record>(
+    kind: Kind,
+    part: Part,
+    size: u8,
+    bytes: &[u8],
+    count: usize,
+    first: usize,
+    from: usize,
+    room: &mut Vec<R>,
+) -> Result<usize, ReadFault>
     requires empty { ⌜ vec-len (now room) ≡ 0 ⌝ }
     requires wide { ⌜ count ≤ vec-cap (now room) ⌝ }
     requires few { ⌜ first + count ≤ 1000 ⌝ }
@@ -47,7 +63,12 @@ fn read_parts<R: Record>(kind: Kind, part: Part, size: u8, bytes: &[u8], count: 
 }
 
 // The actions and the goals go into the places for them; the answer is the header.
-fn read_into<S: Record, G: Record>(kind: Kind, bytes: &[u8], actions: &mut Vec<S>, goals: &mut Vec<G>) -> Result<Header, ReadFault>
+fn read_into<S: Record, G: Record>(
+    kind: Kind,
+    bytes: &[u8],
+    actions: &mut Vec<S>,
+    goals: &mut Vec<G>,
+) -> Result<Header, ReadFault>
     requires empty { ⌜ (vec-len (now actions) ≡ 0) × (vec-len (now goals) ≡ 0) ⌝ }
     requires wide { ⌜ (120 ≤ vec-cap (now actions)) × (32 ≤ vec-cap (now goals)) ⌝ }
     ensures value { λ r. ⌜ fileWith (S·Record .made) (G·Record .made) (readFile kind (now (bytes .entry))) ≡ headed (vec-items (now (actions .exit))) (vec-items (now (goals .exit))) r ⌝ }
@@ -56,21 +77,49 @@ fn read_into<S: Record, G: Record>(kind: Kind, bytes: &[u8], actions: &mut Vec<S
     let header = read_header(kind, bytes)?;
     let action_count = usize::from(header.actions);
     let goal_count = usize::from(header.goals);
-    let middle = read_parts(kind, Part::Action, header.size, bytes, action_count, 1, kind.header_length(), actions)?;
-    let end = read_parts(kind, Part::Goal, header.size, bytes, goal_count, 1 + action_count, middle, goals)?;
+    let middle = read_parts(
+        kind,
+        Part::Action,
+        header.size,
+        bytes,
+        action_count,
+        1,
+        kind.header_length(),
+        actions,
+    )?;
+    let end = read_parts(
+        kind,
+        Part::Goal,
+        header.size,
+        bytes,
+        goal_count,
+        1 + action_count,
+        middle,
+        goals,
+    )?;
     if end != bytes.len() {
-        return Err(ReadFault::End(Position { record: 1 + action_count + goal_count, byte: end }));
+        return Err(ReadFault::End(Position {
+            record: 1 + action_count + goal_count,
+            byte: end,
+        }));
     }
     Ok(header)
 }
 
 // A file of the kind, in the room that is handed over. A refusal gives the room back.
-pub fn read_file<S: Record + Drop, G: Record + Drop>(kind: Kind, bytes: &[u8], room: Room<S, G>) -> Result<File<S, G>, Unread<S, G>>
+pub fn read_file<S: Record + Drop, G: Record + Drop>(
+    kind: Kind,
+    bytes: &[u8],
+    room: Room<S, G>,
+) -> Result<File<S, G>, Unread<S, G>>
     ensures value { λ r. ⌜ outcome r ≡ fileWith (S·Record .made) (G·Record .made) (readFile kind (now (bytes .entry))) ⌝ }
     ensures room { λ r. ⌜ refused r (λ u. SameRoom room (u .room)) ⌝ }
     ensures exact { λ _. ⌜ ReadExactly kind (now (bytes .entry)) ⌝ }
 {
-    let Room { mut actions, mut goals } = room;
+    let Room {
+        mut actions,
+        mut goals,
+    } = room;
     match read_into(kind, bytes, &mut actions, &mut goals) {
         Ok(header) => Ok(File {
             size: header.size,

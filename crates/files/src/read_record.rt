@@ -17,7 +17,14 @@ use crate::numbers::has_bits;
 use crate::numbers::read_number;
 
 // Where a field stands: in a domain of so many fluents or places, in a record of this number, from a byte on.
-fn read_field(bytes: &[u8], size: u8, record: usize, at: usize, field: Field, present: bool) -> Result<(u64, usize), ReadFault>
+fn read_field(
+    bytes: &[u8],
+    size: u8,
+    record: usize,
+    at: usize,
+    field: Field,
+    present: bool,
+) -> Result<(u64, usize), ReadFault>
     requires { ⌜ (present ≡ true → at + bytesOf field ≤ length (now bytes)) ⌝ }
     ensures { λ r. ⌜ r ≡ readField (now (bytes .entry)) size «record» at field present ⌝ }
 {
@@ -49,7 +56,15 @@ pub(crate) fn fields_size(map: u8, fields: &[Field]) -> usize
 }
 
 // The fields that the bit map tells of go into values, absent ones too; the answer is the bits that are left, and the byte after the fields.
-fn read_fields(bytes: &[u8], size: u8, record: usize, from: usize, map: u8, fields: &[Field], values: &mut [u64]) -> Result<(u8, usize), ReadFault>
+fn read_fields(
+    bytes: &[u8],
+    size: u8,
+    record: usize,
+    from: usize,
+    map: u8,
+    fields: &[Field],
+    values: &mut [u64],
+) -> Result<(u8, usize), ReadFault>
     requires fit { ⌜ from + sizeOf map (now fields) ≤ length (now bytes) ⌝ }
     requires places { ⌜ length (now fields) ≤ length (now values) ⌝ }
     ensures { λ r. ⌜ readFields (now (bytes .entry)) size «record» from map (now (fields .entry)) ≡ joinedTo (take (length (now (fields .entry))) (now (values .exit))) r ⌝ }
@@ -66,12 +81,23 @@ fn read_fields(bytes: &[u8], size: u8, record: usize, from: usize, map: u8, fiel
 }
 
 // A record: its fields go into values; the answer is whether it is marked, and the byte after it.
-pub(crate) fn read_record(kind: Kind, part: Part, size: u8, bytes: &[u8], record: usize, at: usize, values: &mut [u64]) -> Result<(bool, usize), ReadFault>
+pub(crate) fn read_record(
+    kind: Kind,
+    part: Part,
+    size: u8,
+    bytes: &[u8],
+    record: usize,
+    at: usize,
+    values: &mut [u64],
+) -> Result<(bool, usize), ReadFault>
     requires { ⌜ length (now values) ≡ 4 ⌝ }
     ensures value { λ r. ⌜ readRecord kind part size (now (bytes .entry)) «record» at ≡ entryWith (take (length (fieldsOf kind part)) (now (values .exit))) r ⌝ }
 {
     if at >= bytes.len() {
-        return Err(ReadFault::Cut(Position { record, byte: bytes.len() }));
+        return Err(ReadFault::Cut(Position {
+            record,
+            byte: bytes.len(),
+        }));
     }
     let map = bytes[at];
     let fields = kind.fields(part);
@@ -79,7 +105,10 @@ pub(crate) fn read_record(kind: Kind, part: Part, size: u8, bytes: &[u8], record
         return Err(ReadFault::Bits(Position { record, byte: at }));
     }
     if bytes.len() - at - 1 < fields_size(map, fields) {
-        return Err(ReadFault::Cut(Position { record, byte: bytes.len() }));
+        return Err(ReadFault::Cut(Position {
+            record,
+            byte: bytes.len(),
+        }));
     }
     let (rest, next) = read_fields(bytes, size, record, at + 1, map, fields, values)?;
     Ok((rest % 2 == 1, next))

@@ -32,7 +32,13 @@ fn room_after<R: Record>(kind: Kind, part: Part, items: &[R], room: usize) -> Op
 }
 
 // The records of the items from a byte on; the answer is the byte after them.
-fn write_parts<R: Record>(kind: Kind, part: Part, items: &[R], place: &mut [u8], from: usize) -> usize
+fn write_parts<R: Record>(
+    kind: Kind,
+    part: Part,
+    items: &[R],
+    place: &mut [u8],
+    from: usize,
+) -> usize
     requires { ⌜ from + length (joined (recordBytes kind part) (map written (now items))) ≤ length (now place) ⌝ }
     ensures { λ r. ⌜ Wrote (joined (recordBytes kind part) (map written (now (items .entry)))) from (now (place .entry)) (now (place .exit)) r ⌝ }
 {
@@ -44,7 +50,14 @@ fn write_parts<R: Record>(kind: Kind, part: Part, items: &[R], place: &mut [u8],
 }
 
 // What stands before the records; the answer is the byte after it.
-fn write_header(kind: Kind, size: u8, actions: usize, goals: usize, start: u64, place: &mut [u8]) -> usize
+fn write_header(
+    kind: Kind,
+    size: u8,
+    actions: usize,
+    goals: usize,
+    start: u64,
+    place: &mut [u8],
+) -> usize
     requires { ⌜ headerLength kind ≤ length (now place) ⌝ }
     ensures { λ r. ⌜ Wrote (headerBytes kind size actions goals start) 0 (now (place .entry)) (now (place .exit)) r ⌝ }
 {
@@ -56,7 +69,14 @@ fn write_header(kind: Kind, size: u8, actions: usize, goals: usize, start: u64, 
 }
 
 // Whether the file fits the room.
-fn fits<S: Record, G: Record>(kind: Kind, size: u8, start: u64, actions: &[S], goals: &[G], room: usize) -> bool
+fn fits<S: Record, G: Record>(
+    kind: Kind,
+    size: u8,
+    start: u64,
+    actions: &[S],
+    goals: &[G],
+    room: usize,
+) -> bool
     ensures { λ r. ⌜ r ≡ leb (length (fileBytes kind (rawOf (S·Record .written) (G·Record .written) size start (now (actions .entry)) (now (goals .entry))))) room ⌝ }
 {
     let header = kind.header_length();
@@ -70,7 +90,14 @@ fn fits<S: Record, G: Record>(kind: Kind, size: u8, start: u64, actions: &[S], g
 }
 
 // The file into the front of the place; the answer is how many bytes it takes.
-pub fn write_file<S: Record, G: Record>(kind: Kind, size: u8, start: u64, actions: &[S], goals: &[G], place: &mut [u8]) -> Result<usize, WriteFault>
+pub fn write_file<S: Record, G: Record>(
+    kind: Kind,
+    size: u8,
+    start: u64,
+    actions: &[S],
+    goals: &[G],
+    place: &mut [u8],
+) -> Result<usize, WriteFault>
     ensures value { λ r. ⌜ r ≡ writeOutcome (fileBytes kind (rawOf (S·Record .written) (G·Record .written) size start (now (actions .entry)) (now (goals .entry)))) (now (place .entry)) ⌝ }
     ensures place { λ _. ⌜ now (place .exit) ≡ placeAfter (fileBytes kind (rawOf (S·Record .written) (G·Record .written) size start (now (actions .entry)) (now (goals .entry)))) (now (place .entry)) ⌝ }
 {

@@ -18,7 +18,11 @@ fn write_field(field: Field, value: u64, place: &mut [u8], at: usize) -> usize
     requires { ⌜ at + length (fieldBytes field value) ≤ length (now place) ⌝ }
     ensures { λ r. ⌜ Wrote (fieldBytes field value) at (now (place .entry)) (now (place .exit)) r ⌝ }
 {
-    if field.is_written(value) { write_number(value, field.bytes(), place, at) } else { at }
+    if field.is_written(value) {
+        write_number(value, field.bytes(), place, at)
+    } else {
+        at
+    }
 }
 
 // The bit of a field.
@@ -32,7 +36,11 @@ fn field_bit(field: Field, value: u64) -> u8
 fn mark_bit<R: Record>(part: Part, item: &R) -> u8
     ensures { λ r. ⌜ r ≡ markBit part (written (now (item .entry))) ⌝ }
 {
-    if part.is_markable() && item.is_marked() { 1 } else { 0 }
+    if part.is_markable() && item.is_marked() {
+        1
+    } else {
+        0
+    }
 }
 
 // The first byte of a record.
@@ -67,7 +75,13 @@ fn write_fields<R: Record>(fields: &[Field], item: &R, place: &mut [u8], from: u
 }
 
 // The record from a byte on; the answer is the byte after it.
-pub(crate) fn write_record<R: Record>(kind: Kind, part: Part, item: &R, place: &mut [u8], at: usize) -> usize
+pub(crate) fn write_record<R: Record>(
+    kind: Kind,
+    part: Part,
+    item: &R,
+    place: &mut [u8],
+    at: usize,
+) -> usize
     requires { ⌜ at + length (recordBytes kind part (written (now item))) ≤ length (now place) ⌝ }
     ensures { λ r. ⌜ Wrote (recordBytes kind part (written (now (item .entry)))) at (now (place .entry)) (now (place .exit)) r ⌝ }
 {

@@ -36,20 +36,22 @@ move-read n h (a ∷ (b ∷ (cost ∷ []))) m v =
     let low : cost < 60001 = v .0 .1 .1 .0 in
     let from = small n a h (v .0 .0) in
     let to = small n b h (v .0 .1 .0) in
-    let same : min cost 65535 ≡ cost = min-eq-left (omega arith) in
-    ( (omega (arith, from, v .0 .0), omega (arith, to, v .0 .1 .0), omega arith)
-    , ap (λ x. record { values = x ∷ (min b 255 ∷ (min cost 65535 ∷ [])); marked = m }) from
-      ∙ ap (λ x. record { values = a ∷ (x ∷ (min cost 65535 ∷ [])); marked = m }) to
-      ∙ ap (λ x. record { values = a ∷ (b ∷ (x ∷ [])); marked = m }) same )
+    let same : min cost 65535 ≡ cost = min-eq-left (omega arith) in (
+      (omega (arith, from, v .0 .0), omega (arith, to, v .0 .1 .0), omega arith),
+      ap (λ x. record { values = x ∷ (min b 255 ∷ (min cost 65535 ∷ [])); marked = m }) from
+          ∙ ap (λ x. record { values = a ∷ (x ∷ (min cost 65535 ∷ [])); marked = m }) to
+          ∙ ap (λ x. record { values = a ∷ (b ∷ (x ∷ [])); marked = m }) same,
+    )
 move-read n h (a ∷ (b ∷ (cost ∷ (x ∷ xs)))) m v = absurd (v .0 .1 .1 .1)
 
 move-written : (n : ℕ) → n ≤ 64 → (m : Move) → MoveAmong n m → ValidEntry kind.Map part.Action n (moveEntry m) × (entryMove (moveEntry m) ≡ m)
 move-written n h m l =
-    let same : min (m .cost) 65535 ≡ m .cost = min-eq-left (omega (arith, l .2)) in
-    ( ((l .0, (l .1, (omega (arith, l .2), tt))), refl)
-    , ap (λ x. record { from = record { 0 = x }; to = record { 0 = min (m .to .0) 255 }; cost = min (m .cost) 65535; marked = m .marked }) (small n (m .from .0) h (l .0))
-      ∙ ap (λ x. record { from = m .from; to = record { 0 = x }; cost = min (m .cost) 65535; marked = m .marked }) (small n (m .to .0) h (l .1))
-      ∙ ap (λ x. record { from = m .from; to = m .to; cost = x; marked = m .marked }) same )
+    let same : min (m .cost) 65535 ≡ m .cost = min-eq-left (omega (arith, l .2)) in (
+      ((l .0, (l .1, (omega (arith, l .2), tt))), refl),
+      ap (λ x. record { from = record { 0 = x }; to = record { 0 = min (m .to .0) 255 }; cost = min (m .cost) 65535; marked = m .marked }) (small n (m .from .0) h (l .0))
+          ∙ ap (λ x. record { from = m .from; to = record { 0 = x }; cost = min (m .cost) 65535; marked = m .marked }) (small n (m .to .0) h (l .1))
+          ∙ ap (λ x. record { from = m .from; to = m .to; cost = x; marked = m .marked }) same,
+    )
 
 goal-read : (n : ℕ) → n ≤ 64 → (vs : List ℕ) (m : Bool) → ValidEntry kind.Map part.Goal n (record { values = vs; marked = m })
     → Among n (entryGoal (record { values = vs; marked = m })) × (goalEntry (entryGoal (record { values = vs; marked = m })) ≡ record { values = vs; marked = m })
@@ -60,11 +62,12 @@ goal-read n h (a ∷ []) m v =
 goal-read n h (a ∷ (b ∷ vs)) m v = absurd (v .0 .1)
 
 converts : Converts kind.Map entryMove moveEntry entryGoal goalEntry MoveAmong Among
-converts = record
-  { action-read = λ n h e. move-read n h (e .values) (e .marked)
-  ; action-written = move-written
-  ; goal-read = λ n h e. goal-read n h (e .values) (e .marked)
-  ; goal-written = λ n h place l. (((l, tt), refl), ap (λ x. record { 0 = x }) (small n (place .0) h l)) }
+converts = record {
+  action-read = λ n h e. move-read n h (e .values) (e .marked);
+  action-written = move-written;
+  goal-read = λ n h e. goal-read n h (e .values) (e .marked);
+  goal-written = λ n h place l. (((l, tt), refl), ap (λ x. record { 0 = x }) (small n (place .0) h l));
+}
 
 -- the limits of a map are those of its file
 abbrev Parts : File Move Place → Type 0
@@ -77,28 +80,30 @@ abbrev partsOf : Contents → File Move Place
 partsOf c = record { size = c .places; start = c .start .0; actions = c .moves; goals = c .goals }
 
 limits-read : (f : File Move Place) → Parts f → InLimits (mapOf f)
-limits-read f v = record
-  { places-low = v .size-low
-  ; places-high = v .size-high
-  ; moves-low = v .actions-low
-  ; moves-high = v .actions-high
-  ; goals-low = v .goals-low
-  ; goals-high = v .goals-high
-  ; start-among = v .start-in
-  ; moves-among = λ k d h. all-getD (MoveAmong (f .size)) (f .actions) k d h (v .actions-good)
-  ; goals-among = λ k d h. all-getD (Among (f .size)) (f .goals) k d h (v .goals-good) }
+limits-read f v = record {
+  places-low = v .size-low;
+  places-high = v .size-high;
+  moves-low = v .actions-low;
+  moves-high = v .actions-high;
+  goals-low = v .goals-low;
+  goals-high = v .goals-high;
+  start-among = v .start-in;
+  moves-among = λ k d h. all-getD (MoveAmong (f .size)) (f .actions) k d h (v .actions-good);
+  goals-among = λ k d h. all-getD (Among (f .size)) (f .goals) k d h (v .goals-good);
+}
 
 limits-written : (c : Contents) → InLimits c → Parts (partsOf c)
-limits-written c l = record
-  { size-low = l .places-low
-  ; size-high = l .places-high
-  ; actions-low = l .moves-low
-  ; actions-high = l .moves-high
-  ; goals-low = l .goals-low
-  ; goals-high = l .goals-high
-  ; start-in = l .start-among
-  ; actions-good = all-from-getD (MoveAmong (c .places)) (c .moves) no-move (λ k h. l .moves-among k no-move h)
-  ; goals-good = all-from-getD (Among (c .places)) (c .goals) first-place (λ k h. l .goals-among k first-place h) }
+limits-written c l = record {
+  size-low = l .places-low;
+  size-high = l .places-high;
+  actions-low = l .moves-low;
+  actions-high = l .moves-high;
+  goals-low = l .goals-low;
+  goals-high = l .goals-high;
+  start-in = l .start-among;
+  actions-good = all-from-getD (MoveAmong (c .places)) (c .moves) no-move (λ k h. l .moves-among k no-move h);
+  goals-good = all-from-getD (Among (c .places)) (c .goals) first-place (λ k h. l .goals-among k first-place h);
+}
 
 contents-ok : (r : Result (File Move Place) ReadFault) (c : Contents) → asContents r ≡ Ok c → (f : File Move Place) × (r ≡ Ok f) × (mapOf f ≡ c)
 contents-ok (Ok f) c e = (f, refl, ok-same _ c e)

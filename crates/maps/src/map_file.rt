@@ -94,6 +94,13 @@ impl FieldMap {
         ensures place { λ _. ⌜ now (place .exit) ≡ placeAfter (mapFile (contents (now (self .entry)))) (now (place .entry)) ⌝ }
         ensures again { λ _. ⌜ readMap (mapFile (contents (now (self .entry)))) ≡ Ok (contents (now (self .entry))) ⌝ }
     {
-        write_file(Kind::Map, self.places, u64::from(self.start.0), self.moves.as_slice(), self.goals.as_slice(), place)
+        write_file(
+            Kind::Map,
+            self.places,
+            u64::from(self.start.0),
+            self.moves.as_slice(),
+            self.goals.as_slice(),
+            place,
+        )
     }
 }

@@ -20,10 +20,11 @@ loop-i-again c =
     let b = c .loop-i .rest % 256 in
     let inside : at < length (c .loop-i .place) = omega (arith, c .pre, c .loop-i-test .taken) in
     let bytes : spelled i v ++ (b ∷ []) ≡ spelled (i + 1) v = ap (λ n. spelled i v ++ (n % 256 ∷ [])) (c .loop-i .inv .0) ∙ sym (spelled-more i v) in
-    let both : Wrote (spelled i v ++ (b ∷ [])) (c .args .from) (c .args .place .now) (set (c .loop-i .place) at b) (at + 1) = wrote-then (spelled i v) (b ∷ []) (c .args .from) at (at + 1) (c .args .place .now) (c .loop-i .place) (set (c .loop-i .place) at b) (c .loop-i .inv .1) (wrote-byte at b (c .loop-i .place) inside) in
-    ( ap (λ n. n / 256) (c .loop-i .inv .0) ∙ high-next v i
-    , subst (Wrote (spelled (i + 1) v) (c .args .from) (c .args .place .now) (set (c .loop-i .place) at b)) (add-assoc (c .args .from) i 1)
-      (subst (λ bs. Wrote bs (c .args .from) (c .args .place .now) (set (c .loop-i .place) at b) (at + 1)) bytes both) )
+    let both : Wrote (spelled i v ++ (b ∷ [])) (c .args .from) (c .args .place .now) (set (c .loop-i .place) at b) (at + 1) = wrote-then (spelled i v) (b ∷ []) (c .args .from) at (at + 1) (c .args .place .now) (c .loop-i .place) (set (c .loop-i .place) at b) (c .loop-i .inv .1) (wrote-byte at b (c .loop-i .place) inside) in (
+      ap (λ n. n / 256) (c .loop-i .inv .0) ∙ high-next v i,
+      subst (Wrote (spelled (i + 1) v) (c .args .from) (c .args .place .now) (set (c .loop-i .place) at b)) (add-assoc (c .args .from) i 1)
+          (subst (λ bs. Wrote bs (c .args .from) (c .args .place .now) (set (c .loop-i .place) at b) (at + 1)) bytes both),
+    )
 
 pub returns : need.returns
 returns c =

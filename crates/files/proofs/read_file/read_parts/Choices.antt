@@ -9,4 +9,4 @@ abbrev pub Inv-loop-i : given.InvT-loop-i
 Inv-loop-i g l =
     (vec-len (l .room) ≡ l .i) × (vec-cap (l .room) ≡ vec-cap (l .entry .room))
     × (partsWith (g .R·Record .made) (readRecords (l .kind) (l .part) (l .size) (l .bytes) (l .count) (l .first) (l .from))
-      ≡ prefixed (vec-items (l .room)) (partsWith (g .R·Record .made) (readRecords (l .kind) (l .part) (l .size) (l .bytes) (l .count - l .i) (l .first + l .i) (l .at))))
+    ≡ prefixed (vec-items (l .room)) (partsWith (g .R·Record .made) (readRecords (l .kind) (l .part) (l .size) (l .bytes) (l .count - l .i) (l .first + l .i) (l .at))))

@@ -27,20 +27,21 @@ pub returns-in-Break-value : need.returns-in-Break-value
 returns-in-Break-value c =
     let p = err-from-errBy (c .from-residual .result) (c .from-residual .ensures .1) in
     rw (p .1, p .2)
-      (c .loop-i .inv .1
-      ∙ ap (prefixed (take (c .loop-i .i) (c .loop-i .values))) (fields-more (c .args .fields .now) (c .loop-i .i) (c .args .bytes .now) (c .args .size) (c .args .record) (c .loop-i .at) (c .loop-i .rest) (c .loop-i-test .taken))
-      ∙ turn-err _ _ _ _ _ (sym (c .read-field .ensures) ∙ c .in-Break-value .was tt))
+    (c .loop-i .inv .1
+    ∙ ap (prefixed (take (c .loop-i .i) (c .loop-i .values))) (fields-more (c .args .fields .now) (c .loop-i .i) (c .args .bytes .now) (c .args .size) (c .args .record) (c .loop-i .at) (c .loop-i .rest) (c .loop-i-test .taken))
+    ∙ turn-err _ _ _ _ _ (sym (c .read-field .ensures) ∙ c .in-Break-value .was tt))
 
 pub loop-i-again : need.loop-i-again
 loop-i-again c =
     let v = c .in-Continue-value in
     let read = sym (c .read-field .ensures) ∙ v .was tt in
-    let room : c .loop-i .i < length (c .loop-i .values) = omega (arith, c .pre .places) in
-    ( omega (arith, c .loop-i .inv .0, size-more (c .args .fields .now) (c .loop-i .i) (c .loop-i .rest) (c .loop-i-test .taken), field-next (c .args .bytes .now) (c .args .size) (c .args .record) (c .loop-i .at) (getD (c .args .fields .now) (c .loop-i .i) Set) (isOdd (c .loop-i .rest)) (v .value, v .next) read)
-    , c .loop-i .inv .1
-      ∙ ap (prefixed (take (c .loop-i .i) (c .loop-i .values))) (fields-more (c .args .fields .now) (c .loop-i .i) (c .args .bytes .now) (c .args .size) (c .args .record) (c .loop-i .at) (c .loop-i .rest) (c .loop-i-test .taken))
-      ∙ turn-ok _ _ _ _ _ read
-      ∙ ap (λ vs. prefixed vs (readFields (c .args .bytes .now) (c .args .size) (c .args .record) (v .next) (c .loop-i .rest / 2) (drop (c .loop-i .i + 1) (c .args .fields .now)))) (sym (take-more-set (c .loop-i .values) (c .loop-i .i) (v .value) room)) )
+    let room : c .loop-i .i < length (c .loop-i .values) = omega (arith, c .pre .places) in (
+      omega (arith, c .loop-i .inv .0, size-more (c .args .fields .now) (c .loop-i .i) (c .loop-i .rest) (c .loop-i-test .taken), field-next (c .args .bytes .now) (c .args .size) (c .args .record) (c .loop-i .at) (getD (c .args .fields .now) (c .loop-i .i) Set) (isOdd (c .loop-i .rest)) (v .value, v .next) read),
+      c .loop-i .inv .1
+          ∙ ap (prefixed (take (c .loop-i .i) (c .loop-i .values))) (fields-more (c .args .fields .now) (c .loop-i .i) (c .args .bytes .now) (c .args .size) (c .args .record) (c .loop-i .at) (c .loop-i .rest) (c .loop-i-test .taken))
+          ∙ turn-ok _ _ _ _ _ read
+          ∙ ap (λ vs. prefixed vs (readFields (c .args .bytes .now) (c .args .size) (c .args .record) (v .next) (c .loop-i .rest / 2) (drop (c .loop-i .i + 1) (c .args .fields .now)))) (sym (take-more-set (c .loop-i .values) (c .loop-i .i) (v .value) room)),
+    )
 
 pub returns : need.returns
 returns c =

@@ -9,4 +9,4 @@ abbrev pub Inv-loop-i : given.InvT-loop-i
 Inv-loop-i l =
     (l .at + sizeOf (l .rest) (drop (l .i) (l .fields)) ≤ length (l .bytes))
     × (readFields (l .bytes) (l .size) (l .record) (l .from) (l .map) (l .fields)
-      ≡ prefixed (take (l .i) (l .values)) (readFields (l .bytes) (l .size) (l .record) (l .at) (l .rest) (drop (l .i) (l .fields))))
+    ≡ prefixed (take (l .i) (l .values)) (readFields (l .bytes) (l .size) (l .record) (l .at) (l .rest) (drop (l .i) (l .fields))))

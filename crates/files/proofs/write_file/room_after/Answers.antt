@@ -21,7 +21,7 @@ returns-then-left-length g c =
     let x = c .item-item .result in
     let inside : i < length es = omega (arith, c .loop-item-test .taken, length-map (c .args .items .now) w) in
     room-short (joined f es) (c .args .room)
-      (omega (arith, c .loop-item .inv, c .if-left-length .taken, c .record-length-length .ensures, joined-fits f es i (w x) inside (mapped-at w (c .args .items .now) i x (c .loop-item-test .taken) (c .item-item .is))))
+    (omega (arith, c .loop-item .inv, c .if-left-length .taken, c .record-length-length .ensures, joined-fits f es i (w x) inside (mapped-at w (c .args .items .now) i x (c .loop-item-test .taken) (c .item-item .is))))
 
 pub loop-item-again : need.loop-item-again
 loop-item-again g c =
@@ -39,4 +39,4 @@ returns g c =
     let w = g .R·Record .written in
     let f = recordBytes (c .args .kind) (c .args .part) in
     room-left (joined f (map w (c .args .items .now))) (c .args .room) (c .loop-item .left)
-      (ap (λ es. c .loop-item .left + length (joined f es)) (sym (mapped-all w (c .args .items .now) (c .loop-item .item-index) (c .loop-item-test .left))) ∙ c .loop-item .inv)
+    (ap (λ es. c .loop-item .left + length (joined f es)) (sym (mapped-all w (c .args .items .now) (c .loop-item .item-index) (c .loop-item-test .left))) ∙ c .loop-item .inv)

@@ -32,8 +32,8 @@ loop-item-again g c =
     let x = c .item-item .result in
     let inside : i < length es = omega (arith, c .loop-item-test .taken, length-map (c .args .items .now) w) in
     subst (λ bs. Wrote bs (c .args .from) (c .args .place .now) (c .write-record-at .last .place) (c .write-record-at .result))
-      (sym (joined-next f es i (w x) inside (mapped-at w (c .args .items .now) i x (c .loop-item-test .taken) (c .item-item .is))))
-      (wrote-then (joined f (take i es)) (f (w x)) (c .args .from) (c .loop-item .at) (c .write-record-at .result) (c .args .place .now) (c .loop-item .place) (c .write-record-at .last .place) (c .loop-item .inv) (c .write-record-at .ensures))
+    (sym (joined-next f es i (w x) inside (mapped-at w (c .args .items .now) i x (c .loop-item-test .taken) (c .item-item .is))))
+    (wrote-then (joined f (take i es)) (f (w x)) (c .args .from) (c .loop-item .at) (c .write-record-at .result) (c .args .place .now) (c .loop-item .place) (c .write-record-at .last .place) (c .loop-item .inv) (c .write-record-at .ensures))
 
 pub returns : need.returns
 returns g c =

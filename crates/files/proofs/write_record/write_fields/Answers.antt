@@ -32,7 +32,7 @@ loop-i-again g c =
     let before = allFieldBytes (take i fs) vs in
     let bytes : before ++ fieldBytes (getD fs i Set) (c .value .result) ≡ allFieldBytes (take (i + 1) fs) vs = ap (λ v. before ++ fieldBytes (getD fs i Set) v) (c .value .ensures) ∙ sym (fields-more fs vs i (c .loop-i-test .taken)) in
     subst (λ bs. Wrote bs (c .args .from) (c .args .place .now) (c .write-field-at .last .place) (c .write-field-at .result)) bytes
-      (wrote-then before _ (c .args .from) (c .loop-i .at) (c .write-field-at .result) (c .args .place .now) (c .loop-i .place) (c .write-field-at .last .place) (c .loop-i .inv) (c .write-field-at .ensures))
+    (wrote-then before _ (c .args .from) (c .loop-i .at) (c .write-field-at .result) (c .args .place .now) (c .loop-i .place) (c .write-field-at .last .place) (c .loop-i .inv) (c .write-field-at .ensures))
 
 pub returns : need.returns
 returns g c =

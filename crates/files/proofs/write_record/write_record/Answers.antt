@@ -19,4 +19,4 @@ returns g c =
     let inside : at < length place = omega (arith, c .pre) in
     let bytes : b ∷ allFieldBytes (c .fields .result .now) (e .values) ≡ bitMap fs (e .values) (markBit (c .args .part) e) ∷ allFieldBytes fs (e .values) = ap (λ n. n ∷ allFieldBytes (c .fields .result .now) (e .values)) (c .bit-map .ensures) ∙ ap (λ gs. bitMap fs (e .values) (markBit (c .args .part) e) ∷ allFieldBytes gs (e .values)) (c .fields .ensures) in
     subst (λ bs. Wrote bs at place (c .write-fields .last .place) (c .write-fields .result)) bytes
-      (wrote-then (b ∷ []) (allFieldBytes (c .fields .result .now) (e .values)) at (at + 1) (c .write-fields .result) place (set place at b) (c .write-fields .last .place) (wrote-byte at b place inside) (c .write-fields .ensures))
+    (wrote-then (b ∷ []) (allFieldBytes (c .fields .result .now) (e .values)) at (at + 1) (c .write-fields .result) place (set place at b) (c .write-fields .last .place) (wrote-byte at b place inside) (c .write-fields .ensures))

@@ -14,22 +14,30 @@ pub returns-in-Break-file : need.returns-in-Break-file
 returns-in-Break-file c =
     let p = err-from-errBy (c .from-residual .result) (c .from-residual .ensures .1) in
     let told = c .in-Break-file .ensures tt in
-    rw (p .1, p .2) (record
-      { value = ap asContents (told .value)
-      ; room = told .room
-      ; exact = card-exactly (c .args .bytes .now) (told .exact)
-      ; same = tt })
+    rw (p .1, p .2) (record {
+      value = ap asContents (told .value);
+      room = told .room;
+      exact = card-exactly (c .args .bytes .now) (told .exact);
+      same = tt;
+    })
 
 pub ghost-result : need.ghost-result
 ghost-result c =
     let told = c .in-Continue-file .ensures tt in
     let file = c .in-Continue-file .file in
-    let l = card-limits (c .args .bytes .now) (told .exact) (contentsOf file) (sym (told .value)) .0 in
-    ( (l .fluents-low, l .fluents-high)
-    , ( (omega (arith, file .actions .ok .0, l .actions-low), omega (arith, file .actions .ok .0, l .actions-high))
-      , ( (omega (arith, file .goals .ok .0, l .goals-low), omega (arith, file .goals .ok .0, l .goals-high))
-        , ( omega (arith, l .start-among, c .from-bits .ensures)
-          , (l .actions-among, (l .goals-among, tt)) ) ) ) )
+    let l = card-limits (c .args .bytes .now) (told .exact) (contentsOf file) (sym (told .value)) .0 in (
+      (l .fluents-low, l .fluents-high),
+      (
+        (omega (arith, file .actions .ok .0, l .actions-low), omega (arith, file .actions .ok .0, l .actions-high)),
+        (
+          (omega (arith, file .goals .ok .0, l .goals-low), omega (arith, file .goals .ok .0, l .goals-high)),
+          (
+            omega (arith, l .start-among, c .from-bits .ensures),
+            (l .actions-among, (l .goals-among, tt)),
+          ),
+        ),
+      ),
+    )
 
 pub returns : need.returns
 returns c =

@@ -18,10 +18,11 @@ returns c =
     let card = c .args .self .now in
     let file : ℕ → List Action → List FluentSet → List ℕ = λ start actions goals. fileBytes kind.Card (rawOf actionEntry goalEntry (card .fluents) start actions goals) in
     let same : file (c .bits .result) (c .as-slice .result .now) (c .as-slice-2 .result .now) ≡ cardFile (contents card) =
-        ap (λ start. file start (c .as-slice .result .now) (c .as-slice-2 .result .now)) (c .bits .ensures)
-        ∙ ap (λ actions. file (card .start .0) actions (c .as-slice-2 .result .now)) (c .as-slice .ensures .value)
-        ∙ ap (file (card .start .0) (vec-items (card .actions))) (c .as-slice-2 .ensures .value) in
-    record
-      { value = c .write-file .ensures .value ∙ ap (λ bytes. writeOutcome bytes (c .args .place .now)) same
-      ; place = c .write-file .ensures .place ∙ ap (λ bytes. placeAfter bytes (c .args .place .now)) same
-      ; again = card-again (contents card) (in-limits card) }
+    ap (λ start. file start (c .as-slice .result .now) (c .as-slice-2 .result .now)) (c .bits .ensures)
+    ∙ ap (λ actions. file (card .start .0) actions (c .as-slice-2 .result .now)) (c .as-slice .ensures .value)
+    ∙ ap (file (card .start .0) (vec-items (card .actions))) (c .as-slice-2 .ensures .value) in
+    record {
+      value = c .write-file .ensures .value ∙ ap (λ bytes. writeOutcome bytes (c .args .place .now)) same;
+      place = c .write-file .ensures .place ∙ ap (λ bytes. placeAfter bytes (c .args .place .now)) same;
+      again = card-again (contents card) (in-limits card);
+    }

@@ -13,11 +13,12 @@ pub returns-in-Break-file : need.returns-in-Break-file
 returns-in-Break-file c =
     let p = err-from-errBy (c .from-residual .result) (c .from-residual .ensures .1) in
     let told = c .in-Break-file .ensures tt in
-    rw (p .1, p .2) (record
-      { value = ap asContents (told .value)
-      ; room = told .room
-      ; exact = map-exactly (c .args .bytes .now) (told .exact)
-      ; same = tt })
+    rw (p .1, p .2) (record {
+      value = ap asContents (told .value);
+      room = told .room;
+      exact = map-exactly (c .args .bytes .now) (told .exact);
+      same = tt;
+    })
 
 pub cast-result : need.cast-result
 cast-result c =
@@ -29,11 +30,16 @@ pub ghost-result : need.ghost-result
 ghost-result c =
     let told = c .in-Continue-file .ensures tt in
     let file = c .in-Continue-file .file in
-    let l = map-limits (c .args .bytes .now) (told .exact) (contentsOf file) (sym (told .value)) .0 in
-    ( (l .places-low, l .places-high)
-    , ( (omega (arith, file .actions .ok .0, l .moves-low), omega (arith, file .actions .ok .0, l .moves-high))
-      , ( (omega (arith, file .goals .ok .0, l .goals-low), omega (arith, file .goals .ok .0, l .goals-high))
-        , (l .start-among, (l .moves-among, (l .goals-among, tt))) ) ) )
+    let l = map-limits (c .args .bytes .now) (told .exact) (contentsOf file) (sym (told .value)) .0 in (
+      (l .places-low, l .places-high),
+      (
+        (omega (arith, file .actions .ok .0, l .moves-low), omega (arith, file .actions .ok .0, l .moves-high)),
+        (
+          (omega (arith, file .goals .ok .0, l .goals-low), omega (arith, file .goals .ok .0, l .goals-high)),
+          (l .start-among, (l .moves-among, (l .goals-among, tt))),
+        ),
+      ),
+    )
 
 pub returns : need.returns
 returns c =
