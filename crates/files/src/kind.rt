@@ -16,6 +16,14 @@ pub enum Part {
     Goal,
 }
 
+// Which record it is that stands somewhere in a file: of this kind, for this part, in a domain of so many fluents or places.
+#[derive(Clone, Copy)]
+pub(crate) struct Shape {
+    pub(crate) kind: Kind,
+    pub(crate) part: Part,
+    pub(crate) size: u8,
+}
+
 impl Part {
     // Whether a record has a bit for a mark.
     pub(crate) fn is_markable(self) -> bool

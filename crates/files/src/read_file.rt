@@ -15,54 +15,53 @@ use crate::header::Header;
 use crate::header::read_header;
 use crate::kind::Kind;
 use crate::kind::Part;
+use crate::kind::Shape;
 use crate::read_record::read_record;
 use crate::record::Record;
 use crate::room::Room;
 
 // What a record stands for, and the byte after it.
-fn read_part<R: Record>(
-    kind: Kind,
-    part: Part,
-    size: u8,
-    bytes: &[u8],
-    record: usize,
-    at: usize,
-) -> Result<(R, usize), ReadFault>
-    ensures { λ r. ⌜ r ≡ partWith made (readRecord kind part size (now (bytes .entry)) «record» at) ⌝ }
+fn read_part<R: Record>(shape: Shape, bytes: &[u8], at: Position) -> Result<(R, usize), ReadFault>
+    ensures { λ r. ⌜ r ≡ partWith made (readRecord (shape .kind) (shape .part) (shape .size) (now (bytes .entry)) (at .«record») (at .byte)) ⌝ }
 {
     let mut values = [0u64; 4];
-    let (marked, next) = read_record(kind, part, size, bytes, record, at, &mut values)?;
-    let length = kind.fields(part).len();
+    let (marked, next) = read_record(shape, bytes, at, &mut values)?;
+    let length = shape.kind.fields(shape.part).len();
     Ok((R::from_values(&values[0..length], marked), next))
 }
 
-// What as many records as count says stand for, from the first on; the answer is the byte after them.
+// What so many records stand for goes into the room. The answer is the byte after them.
 fn read_parts<R: Record>(
-    kind: Kind,
-    part: Part,
-    size: u8,
+    shape: Shape,
     bytes: &[u8],
     count: usize,
-    first: usize,
-    from: usize,
+    from: Position,
     room: &mut Vec<R>,
 ) -> Result<usize, ReadFault>
     requires empty { ⌜ vec-len (now room) ≡ 0 ⌝ }
     requires wide { ⌜ count ≤ vec-cap (now room) ⌝ }
-    requires few { ⌜ first + count ≤ 1000 ⌝ }
-    ensures value { λ r. ⌜ partsWith made (readRecords kind part size (now (bytes .entry)) count first from) ≡ joinedTo (vec-items (now (room .exit))) r ⌝ }
+    requires few { ⌜ from .«record» + count ≤ 1000 ⌝ }
+    ensures value { λ r. ⌜ partsWith made (readRecords (shape .kind) (shape .part) (shape .size) (now (bytes .entry)) count (from .«record») (from .byte)) ≡ joinedTo (vec-items (now (room .exit))) r ⌝ }
     ensures room { λ _. ⌜ vec-cap (now (room .exit)) ≡ vec-cap (now (room .entry)) ⌝ }
 {
-    let mut at = from;
+    let first = from.record;
+    let mut byte = from.byte;
     for i in 0..count {
-        let (item, next) = read_part(kind, part, size, bytes, first + i, at)?;
+        let (item, next) = read_part(
+            shape,
+            bytes,
+            Position {
+                record: first + i,
+                byte,
+            },
+        )?;
         room.push_reserved(item);
-        at = next;
+        byte = next;
     }
-    Ok(at)
+    Ok(byte)
 }
 
-// The actions and the goals go into the places for them; the answer is the header.
+// The actions and the goals go into the places for them. The answer is the header.
 fn read_into<S: Record, G: Record>(
     kind: Kind,
     bytes: &[u8],
@@ -75,33 +74,32 @@ fn read_into<S: Record, G: Record>(
     ensures room { λ _. ⌜ (vec-cap (now (actions .exit)) ≡ vec-cap (now (actions .entry))) × (vec-cap (now (goals .exit)) ≡ vec-cap (now (goals .entry))) ⌝ }
 {
     let header = read_header(kind, bytes)?;
+    let size = header.size;
     let action_count = usize::from(header.actions);
     let goal_count = usize::from(header.goals);
-    let middle = read_parts(
+    let shape = Shape {
         kind,
-        Part::Action,
-        header.size,
+        part: Part::Action,
+        size,
+    };
+    let byte = kind.header_length();
+    let byte = read_parts(
+        shape,
         bytes,
         action_count,
-        1,
-        kind.header_length(),
+        Position { record: 1, byte },
         actions,
     )?;
-    let end = read_parts(
+    let shape = Shape {
         kind,
-        Part::Goal,
-        header.size,
-        bytes,
-        goal_count,
-        1 + action_count,
-        middle,
-        goals,
-    )?;
-    if end != bytes.len() {
-        return Err(ReadFault::End(Position {
-            record: 1 + action_count + goal_count,
-            byte: end,
-        }));
+        part: Part::Goal,
+        size,
+    };
+    let record = 1 + action_count;
+    let byte = read_parts(shape, bytes, goal_count, Position { record, byte }, goals)?;
+    if byte != bytes.len() {
+        let record = record + goal_count;
+        return Err(ReadFault::End(Position { record, byte }));
     }
     Ok(header)
 }

@@ -7,6 +7,6 @@ use Rattle.files.proofs.read_record.read_fields.Given as given
 
 abbrev pub Inv-loop-i : given.InvT-loop-i
 Inv-loop-i l =
-    (l .at + sizeOf (l .rest) (drop (l .i) (l .fields)) ≤ length (l .bytes))
-    × (readFields (l .bytes) (l .size) (l .record) (l .from) (l .map) (l .fields)
-    ≡ prefixed (take (l .i) (l .values)) (readFields (l .bytes) (l .size) (l .record) (l .at) (l .rest) (drop (l .i) (l .fields))))
+    (l .byte + sizeOf (l .rest) (drop (l .i) (l .fields)) ≤ length (l .bytes))
+    × (readFields (l .bytes) (l .size) (l .«record») (l .entry .byte) (l .map) (l .fields)
+    ≡ prefixed (take (l .i) (l .values)) (readFields (l .bytes) (l .size) (l .«record») (l .byte) (l .rest) (drop (l .i) (l .fields))))
