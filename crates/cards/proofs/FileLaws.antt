@@ -9,7 +9,7 @@ use lib.ListN.{length, getD}
 use Rattle.std.specs.declared.result.Result.{Result}
 use Rattle.std.specs.declared.result.Result.the-variants.{Ok, Err}
 use Rattle.std.proofs.shelf.Elements.{all-getD, all-from-getD}
-use Rattle.files.specs.declared.fault.ReadFault.{ReadFault}
+use Rattle.domain.specs.declared.fault.ReadFault.{ReadFault}
 use Rattle.files.specs.declared.kind.Kind.the-variants as kind
 use Rattle.files.specs.declared.kind.Part.the-variants as part
 use Rattle.files.specs.Contents.{Entry, File, ValidEntry}
@@ -18,8 +18,9 @@ use Rattle.files.specs.Reading.{readFile, fileWith}
 use Rattle.files.proofs.Outcomes.{ok-same, ok-or-err}
 use Rattle.files.proofs.Typed.{Converts, ValidParts, parts-read, parts-written}
 use Rattle.cards.specs.declared.action.Action.{Action}
-use Rattle.cards.specs.declared.fluents.FluentSet.{FluentSet}
-use Rattle.cards.specs.CardFiles.{setOf, actionEntry, entryAction, goalEntry, entryGoal, cardFile, asContents, readCard, ReadExactly}
+use Rattle.fluents.specs.declared.FluentSet.{FluentSet}
+use Rattle.cards.specs.CardFiles.{actionEntry, entryAction, cardFile, asContents, readCard, ReadExactly}
+use Rattle.fluents.specs.SetRecords.{setOf, setEntry, entrySet}
 use Rattle.cards.specs.Cards.{empty-set, no-action}
 use Rattle.cards.specs.Contents.{Contents, InLimits}
 use Rattle.cards.specs.Limits.{Among, ActionAmong, EveryAction, EveryGoal}
@@ -43,12 +44,12 @@ action-written n a h =
     (((h .0, (h .1, (h .2, (omega (arith, h .3), tt)))), refl), ap (λ x. record { needs = a .needs; adds = a .adds; deletes = a .deletes; cost = x; marked = a .marked }) same)
 
 goal-read : (n : ℕ) (vs : List ℕ) (m : Bool) → ValidEntry kind.Card part.Goal n (record { values = vs; marked = m })
-    → Among n (entryGoal (record { values = vs; marked = m })) × (goalEntry (entryGoal (record { values = vs; marked = m })) ≡ record { values = vs; marked = m })
+    → Among n (entrySet (record { values = vs; marked = m })) × (setEntry (entrySet (record { values = vs; marked = m })) ≡ record { values = vs; marked = m })
 goal-read n [] m v = absurd (v .0)
 goal-read n (a ∷ []) m v = (v .0 .0, ap (λ b. record { values = a ∷ []; marked = b }) (v .1))
 goal-read n (a ∷ (b ∷ vs)) m v = absurd (v .0 .1)
 
-converts : Converts kind.Card entryAction actionEntry entryGoal goalEntry ActionAmong Among
+converts : Converts kind.Card entryAction actionEntry entrySet setEntry ActionAmong Among
 converts = record {
   action-read = λ n _ e. action-read n (e .values) (e .marked);
   action-written = λ n _. action-written n;
@@ -58,7 +59,7 @@ converts = record {
 
 -- the limits of a card are those of its file
 abbrev Parts : File Action FluentSet → Type 0
-Parts = ValidParts kind.Card entryAction actionEntry entryGoal goalEntry ActionAmong Among
+Parts = ValidParts kind.Card entryAction actionEntry entrySet setEntry ActionAmong Among
 
 abbrev cardOf : File Action FluentSet → Contents
 cardOf f = record { fluents = f .size; start = setOf (f .start); actions = f .actions; goals = f .goals }
@@ -98,15 +99,15 @@ contents-ok (Err g) c e = ok-or-err c g e
 
 -- a card that is written is read again
 pub card-again : (c : Contents) → InLimits c → readCard (cardFile c) ≡ Ok c
-card-again c l = ap asContents (parts-written kind.Card entryAction actionEntry entryGoal goalEntry ActionAmong Among converts (partsOf c) (limits-written c l))
+card-again c l = ap asContents (parts-written kind.Card entryAction actionEntry entrySet setEntry ActionAmong Among converts (partsOf c) (limits-written c l))
 
 module _ (bs : List ℕ) (exact : files.ReadExactly kind.Card bs) where
-  pub card-limits : (f : File Action FluentSet) → fileWith entryAction entryGoal (readFile kind.Card bs) ≡ Ok f → InLimits (cardOf f) × (bs ≡ cardFile (cardOf f))
-  card-limits f e = let p = parts-read kind.Card entryAction actionEntry entryGoal goalEntry ActionAmong Among converts bs exact f e in (limits-read f (p .0), p .1)
+  pub card-limits : (f : File Action FluentSet) → fileWith entryAction entrySet (readFile kind.Card bs) ≡ Ok f → InLimits (cardOf f) × (bs ≡ cardFile (cardOf f))
+  card-limits f e = let p = parts-read kind.Card entryAction actionEntry entrySet setEntry ActionAmong Among converts bs exact f e in (limits-read f (p .0), p .1)
 
   card-only : (c : Contents) → readCard bs ≡ Ok c → InLimits c × (bs ≡ cardFile c)
   card-only c e =
-      let was = contents-ok (fileWith entryAction entryGoal (readFile kind.Card bs)) c e in
+      let was = contents-ok (fileWith entryAction entrySet (readFile kind.Card bs)) c e in
       subst (λ c. InLimits c × (bs ≡ cardFile c)) (was .2) (card-limits (was .0) (was .1))
 
   pub card-exactly : ReadExactly bs

@@ -16,8 +16,8 @@ use Rattle.domain.specs.Meaning.{Limits}
 use Rattle.cards.specs.Cards.{no-action, actionAt, goalAt, canRun, meaningOf, Runs, After, Meets}
 use Rattle.cards.specs.Contents.{Contents, InLimits, contents}
 use Rattle.cards.specs.declared.card.Card.{Card}
-use Rattle.cards.specs.Fluents.{holds, Within, within, changed}
-use Rattle.cards.proofs.Sets.{holds-or, holds-less, same-set, decides-within}
+use Rattle.fluents.specs.Fluents.{holds, Within, within, changed}
+use Rattle.fluents.proofs.Sets.{holds-or, holds-less, same-set, decides-within}
 
 -- the test that `runs` and `meets` share
 decides-part : (s top k n x : ℕ) → Decides (ltb s top && (ltb k n && within x s)) ((s < top) × (k < n) × Within x s)

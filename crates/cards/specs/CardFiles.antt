@@ -1,12 +1,11 @@
 -- A card's file.
 use mathlib.Core.Path.{_≡_}
-use mathlib.Core.Bool.{false}
 use mathlib.Core.List.{List, [], _∷_}
 use Prim.Native.Nat.{ℕ, min}
 use lib.ListN.{getD}
 use Rattle.std.specs.declared.result.Result.{Result}
 use Rattle.std.specs.declared.result.Result.the-variants.{Ok, Err}
-use Rattle.files.specs.declared.fault.ReadFault.{ReadFault}
+use Rattle.domain.specs.declared.fault.ReadFault.{ReadFault}
 use Rattle.files.specs.declared.file.Unread.{Unread}
 use Rattle.files.specs.declared.kind.Kind.the-variants as kind
 use Rattle.files.specs.Contents.{Entry, File, fileBytes}
@@ -14,11 +13,9 @@ use Rattle.files.specs.Reading.{readFile, fileWith}
 use Rattle.files.specs.Writing.{rawOf}
 use Rattle.cards.specs.declared.action.Action.{Action}
 use Rattle.cards.specs.declared.card.Card.{Card}
-use Rattle.cards.specs.declared.fluents.FluentSet.{FluentSet}
+use Rattle.fluents.specs.declared.FluentSet.{FluentSet}
+use Rattle.fluents.specs.SetRecords.{setOf, setEntry, entrySet}
 use Rattle.cards.specs.Contents.{Contents, contents, InLimits}
-
-abbrev pub setOf : ℕ → FluentSet
-setOf bits = record { 0 = bits }
 
 -- an action's record, and the action that is made of one; a cost takes sixteen bits
 abbrev pub actionEntry : Action → Entry
@@ -33,16 +30,9 @@ entryAction e = record {
   marked = e .marked;
 }
 
--- a goal's record, and the goal that is made of one
-abbrev pub goalEntry : FluentSet → Entry
-goalEntry set = record { values = set .0 ∷ []; marked = false }
-
-abbrev pub entryGoal : Entry → FluentSet
-entryGoal e = setOf (getD (e .values) 0 0)
-
 -- the bytes of a card
 abbrev pub cardFile : Contents → List ℕ
-cardFile c = fileBytes kind.Card (rawOf actionEntry goalEntry (c .fluents) (c .start .0) (c .actions) (c .goals))
+cardFile c = fileBytes kind.Card (rawOf actionEntry setEntry (c .fluents) (c .start .0) (c .actions) (c .goals))
 
 -- reading a card
 abbrev pub asContents : Result (File Action FluentSet) ReadFault → Result Contents ReadFault
@@ -50,7 +40,7 @@ asContents (Ok f) = Ok (record { fluents = f .size; start = setOf (f .start); ac
 asContents (Err e) = Err e
 
 abbrev pub readCard : List ℕ → Result Contents ReadFault
-readCard bs = asContents (fileWith entryAction entryGoal (readFile kind.Card bs))
+readCard bs = asContents (fileWith entryAction entrySet (readFile kind.Card bs))
 
 -- what a call that reads a card hands back
 abbrev pub outcome : Result Card (Unread Action FluentSet) → Result Contents ReadFault

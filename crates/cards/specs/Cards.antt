@@ -8,9 +8,9 @@ use Rattle.std.specs.Options.{Cases}
 use Rattle.std.specs.shelf.Maps.{nth}
 use Rattle.domain.specs.Meaning.{Meaning}
 use Rattle.cards.specs.declared.action.Action.{Action}
-use Rattle.cards.specs.declared.fluents.FluentSet.{FluentSet}
+use Rattle.fluents.specs.declared.FluentSet.{FluentSet}
 use Rattle.cards.specs.Contents.{Contents}
-use Rattle.cards.specs.Fluents.{holds, Within, within, changed}
+use Rattle.fluents.specs.Fluents.{holds, Within, within, changed}
 
 abbrev pub empty-set : FluentSet
 empty-set = record { 0 = 0 }

@@ -5,7 +5,7 @@ use lib.ListN.{length}
 use Rattle.std.specs.Of.Vec.{vec-items}
 use Rattle.cards.specs.declared.action.Action.{Action}
 use Rattle.cards.specs.declared.card.Card.{Card}
-use Rattle.cards.specs.declared.fluents.FluentSet.{FluentSet}
+use Rattle.fluents.specs.declared.FluentSet.{FluentSet}
 use Rattle.cards.specs.Limits.{Among, EveryAction, EveryGoal}
 
 pub record Contents : Type 0 where

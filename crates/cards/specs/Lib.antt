@@ -1,5 +1,4 @@
 pub mod CardFiles
 pub mod Cards
 pub mod Contents
-pub mod Fluents
 pub mod Limits

@@ -3,7 +3,7 @@ use mathlib.Core.List.{List}
 use Prim.Native.Nat.{ℕ, _^_, _≤_, _<_}
 use lib.ListN.{length, getD}
 use Rattle.cards.specs.declared.action.Action.{Action}
-use Rattle.cards.specs.declared.fluents.FluentSet.{FluentSet}
+use Rattle.fluents.specs.declared.FluentSet.{FluentSet}
 
 -- the set has no fluent but the first n
 abbrev pub Among : ℕ → FluentSet → Type 0

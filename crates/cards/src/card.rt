@@ -3,7 +3,7 @@ ghost use Prim.Native.Nat.{_≤_};
 ghost use Rattle.std.specs.Of.Vec.{vec-len, vec-items};
 ghost use Rattle.cards.specs.Limits.{Among, EveryAction, EveryGoal};
 use crate::action::Action;
-use crate::fluents::FluentSet;
+use fluents::FluentSet;
 
 #[derive(Drop)]
 pub struct Card {

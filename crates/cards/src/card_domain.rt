@@ -5,8 +5,8 @@ ghost use Rattle.std.specs.Orderings.{Decides};
 ghost use Rattle.cards.specs.Cards.{meaningOf, Runs, After, Meets, OwnCost, OwnMark};
 ghost use Rattle.cards.specs.Contents.{contents};
 use crate::card::Card;
-use crate::fluents::FluentSet;
 use domain::Domain;
+use fluents::FluentSet;
 
 impl Card {
     // A number is a state when all its bits are fluents of the card.

@@ -4,19 +4,20 @@ ghost use Rattle.std.specs.Vec.{made, refused};
 ghost use Rattle.std.specs.declared.result.Result.the-variants.{Ok};
 ghost use Rattle.files.specs.Outcome.{SameRoom};
 ghost use Rattle.files.specs.Writing.{writeOutcome, placeAfter};
-ghost use Rattle.cards.specs.CardFiles.{actionEntry, entryAction, goalEntry, entryGoal, cardFile, readCard, outcome, ReadExactly};
+ghost use Rattle.cards.specs.CardFiles.{actionEntry, entryAction, cardFile, readCard, outcome, ReadExactly};
 ghost use Rattle.cards.specs.Contents.{contents};
 use crate::action::Action;
 use crate::card::Card;
-use crate::fluents::FluentSet;
-use files::fault::WriteFault;
+use domain::fault::WriteFault;
+use domain::room::Room;
 use files::file::Unread;
 use files::kind::Kind;
 use files::read_file::read_file;
 use files::record::Record;
 use files::record::value_at;
-use files::room::Room;
 use files::write_file::write_file;
+use fluents::FluentSet;
+use fluents::set_record::SetRecord;
 
 pub impl Record for Action as ActionRecord {
     ghost written = { actionEntry };
@@ -45,24 +46,6 @@ pub impl Record for Action as ActionRecord {
 
     fn is_marked(&self) -> bool {
         self.marked
-    }
-}
-
-pub impl Record for FluentSet as GoalRecord {
-    ghost written = { goalEntry };
-
-    ghost made = { entryGoal };
-
-    fn from_values(values: &[u64], _marked: bool) -> FluentSet {
-        FluentSet::from_bits(value_at(values, 0))
-    }
-
-    fn value(&self, field: usize) -> u64 {
-        if field == 0 { self.bits() } else { 0 }
-    }
-
-    fn is_marked(&self) -> bool {
-        false
     }
 }
 

@@ -3,5 +3,4 @@ pub mod action;
 pub mod card;
 pub mod card_domain;
 pub mod card_file;
-pub mod fluents;
 pub mod parts;

@@ -4,7 +4,7 @@ ghost use Rattle.std.specs.shelf.Maps.{nth};
 ghost use Rattle.cards.specs.Contents.{contents};
 use crate::action::Action;
 use crate::card::Card;
-use crate::fluents::FluentSet;
+use fluents::FluentSet;
 
 impl Card {
     // The action of that number, if the card has one.

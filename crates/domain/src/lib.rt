@@ -2,6 +2,9 @@
 ghost use mathlib.Core.Path.{_≡_};
 ghost use Rattle.domain.specs.Meaning.{Meaning, Limits};
 
+pub mod fault;
+pub mod room;
+
 // What an implementation means is one record, and each method answers by it.
 // The law is owed by every implementation, so that no domain breaks the limits.
 pub trait Domain {

@@ -14,8 +14,8 @@ use Rattle.std.proofs.shelf.Elements.{all-take, all-drop}
 use Rattle.std.proofs.shelf.Lists.{take-append-drop, drop-drop, length-take-le, length-drop, length-append, take-at, drop-at}
 use Rattle.std.proofs.shelf.Tests.{and-parts, and-from, not-false, ltb-true, lt-ltb, eqb-true, eqb-false, eq-eqb, ne-eqb}
 use Rattle.std.proofs.shelf.Bits.{pow-pos}
-use Rattle.files.specs.declared.fault.ReadFault.{ReadFault}
-use Rattle.files.specs.declared.fault.ReadFault.the-variants as Refused
+use Rattle.domain.specs.declared.fault.ReadFault.{ReadFault}
+use Rattle.domain.specs.declared.fault.ReadFault.the-variants as Refused
 use Rattle.files.specs.declared.field.Field.{Field}
 use Rattle.files.specs.declared.field.Field.the-variants.{Set, Place, Cost}
 use Rattle.files.specs.Contents.{isWritten, bitMap, fieldBytes, allFieldBytes, InRange}

@@ -6,7 +6,7 @@ use Prim.Native.Nat.{ℕ}
 use native.Mathlib.Omega.{arith}
 use Rattle.std.specs.declared.result.Result.{Result}
 use Rattle.std.specs.declared.result.Result.the-variants.{Ok, Err}
-use Rattle.files.specs.declared.fault.ReadFault.{ReadFault}
+use Rattle.domain.specs.declared.fault.ReadFault.{ReadFault}
 use Rattle.files.specs.Reading.{then, withFirst}
 
 pub ok-same : {X : Type 0} (x y : X) → _≡_ {A = Result X ReadFault} (Ok x) (Ok y) → x ≡ y

@@ -10,7 +10,7 @@ use lib.ListN.{length, getD, take, drop}
 use Rattle.std.specs.declared.result.Result.{Result}
 use Rattle.std.specs.declared.result.Result.the-variants.{Ok, Err}
 use Rattle.std.proofs.shelf.Lists.{at-drop-more, at-drop-all, append-nil}
-use Rattle.files.specs.declared.fault.ReadFault.{ReadFault}
+use Rattle.domain.specs.declared.fault.ReadFault.{ReadFault}
 use Rattle.files.specs.declared.field.Field.{Field}
 use Rattle.files.specs.declared.field.Field.the-variants.{Set, Place, Cost}
 use Rattle.files.specs.declared.kind.Kind.{Kind}

@@ -12,7 +12,7 @@ use Rattle.std.specs.declared.result.Result.the-variants.{Ok, Err}
 use Rattle.std.specs.shelf.Lists.{All, joined}
 use Rattle.std.proofs.shelf.Lists.{drop-more, drop-drop, length-drop, length-append, getD-drop}
 use Rattle.std.proofs.shelf.Tests.{ltb-true, lt-ltb, leb-true, le-leb, cond-true}
-use Rattle.files.specs.declared.fault.ReadFault.{ReadFault}
+use Rattle.domain.specs.declared.fault.ReadFault.{ReadFault}
 use Rattle.files.specs.declared.field.Field.{Field}
 use Rattle.files.specs.declared.kind.Kind.{Kind}
 use Rattle.files.specs.declared.kind.Kind.the-variants.{Card, Map}

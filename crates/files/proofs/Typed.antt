@@ -8,7 +8,7 @@ use Rattle.std.specs.declared.result.Result.{Result}
 use Rattle.std.specs.declared.result.Result.the-variants.{Ok, Err}
 use Rattle.std.specs.shelf.Lists.{All}
 use Rattle.std.proofs.shelf.Lists.{length-map}
-use Rattle.files.specs.declared.fault.ReadFault.{ReadFault}
+use Rattle.domain.specs.declared.fault.ReadFault.{ReadFault}
 use Rattle.files.specs.declared.kind.Kind.{Kind}
 use Rattle.files.specs.declared.kind.Part.the-variants.{Action, Goal}
 use Rattle.files.specs.Contents.{Entry, File, RawFile, fileBytes, ValidEntry, ValidFile}

@@ -1,6 +1,5 @@
 pub mod Contents
 pub mod Exact
-pub mod Faults
 pub mod Formats
 pub mod Numbers
 pub mod Outcome

@@ -3,10 +3,10 @@ use mathlib.Core.Path.{_≡_}
 use Rattle.std.specs.Of.Vec.{vec-items, vec-cap}
 use Rattle.std.specs.declared.result.Result.{Result}
 use Rattle.std.specs.declared.result.Result.the-variants.{Ok, Err}
-use Rattle.files.specs.declared.fault.ReadFault.{ReadFault}
+use Rattle.domain.specs.declared.fault.ReadFault.{ReadFault}
 use Rattle.files.specs.declared.file.File.{File}
 use Rattle.files.specs.declared.file.Unread.{Unread}
-use Rattle.files.specs.declared.room.Room.{Room}
+use Rattle.domain.specs.declared.room.Room.{Room}
 use Rattle.files.specs.Contents as contents
 
 -- what was read, apart from where it lies in memory

@@ -6,9 +6,9 @@ use lib.Dec.{eqb, leb, ltb}
 use lib.ListN.{length, getD, take, drop}
 use Rattle.std.specs.declared.result.Result.{Result}
 use Rattle.std.specs.declared.result.Result.the-variants.{Ok, Err}
-use Rattle.files.specs.declared.fault.Position.{Position}
-use Rattle.files.specs.declared.fault.ReadFault.{ReadFault}
-use Rattle.files.specs.declared.fault.ReadFault.the-variants as fault
+use Rattle.domain.specs.declared.fault.Position.{Position}
+use Rattle.domain.specs.declared.fault.ReadFault.{ReadFault}
+use Rattle.domain.specs.declared.fault.ReadFault.the-variants as fault
 use Rattle.files.specs.declared.field.Field.{Field}
 use Rattle.files.specs.declared.kind.Kind.{Kind}
 use Rattle.files.specs.declared.kind.Part.{Part}

@@ -9,8 +9,8 @@ use Rattle.std.specs.declared.option.Option.{Option}
 use Rattle.std.specs.declared.option.Option.the-variants.{Some, None}
 use Rattle.std.specs.declared.result.Result.{Result}
 use Rattle.std.specs.declared.result.Result.the-variants.{Ok, Err}
-use Rattle.files.specs.declared.fault.WriteFault.{WriteFault}
-use Rattle.files.specs.declared.fault.WriteFault.the-variants.{Place}
+use Rattle.domain.specs.declared.fault.WriteFault.{WriteFault}
+use Rattle.domain.specs.declared.fault.WriteFault.the-variants.{Place}
 use Rattle.files.specs.Contents.{Entry, RawFile}
 
 -- the answer: how many bytes were written, or that the place is too short

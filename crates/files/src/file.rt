@@ -1,6 +1,6 @@
 // What is read of a file.
-use crate::fault::ReadFault;
-use crate::room::Room;
+use domain::fault::ReadFault;
+use domain::room::Room;
 
 // A file that was read: how many fluents or places there are, the start, the actions and the goals.
 #[derive(Drop)]

@@ -1,10 +1,10 @@
 // Reading the header of a file.
 ghost use mathlib.Core.Path.{_≡_};
 ghost use Rattle.files.specs.Reading.{readHeader};
-use crate::fault::Position;
-use crate::fault::ReadFault;
 use crate::kind::Kind;
 use crate::numbers::read_number;
+use domain::fault::Position;
+use domain::fault::ReadFault;
 
 // What stands before the records.
 #[derive(Clone, Copy)]

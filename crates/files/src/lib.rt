@@ -1,5 +1,4 @@
 // Domain files: the two formats, read and written by one set of functions.
-pub mod fault;
 mod field;
 pub mod file;
 mod header;
@@ -8,6 +7,5 @@ mod numbers;
 pub mod read_file;
 mod read_record;
 pub mod record;
-pub mod room;
 pub mod write_file;
 mod write_record;

@@ -7,8 +7,6 @@ ghost use Rattle.std.specs.Vec.{refused};
 ghost use Rattle.files.specs.Exact.{ReadExactly};
 ghost use Rattle.files.specs.Outcome.{outcome, SameRoom};
 ghost use Rattle.files.specs.Reading.{readRecord, readRecords, readFile, partWith, partsWith, fileWith, joinedTo, headed};
-use crate::fault::Position;
-use crate::fault::ReadFault;
 use crate::file::File;
 use crate::file::Unread;
 use crate::header::Header;
@@ -18,7 +16,9 @@ use crate::kind::Part;
 use crate::kind::Shape;
 use crate::read_record::read_record;
 use crate::record::Record;
-use crate::room::Room;
+use domain::fault::Position;
+use domain::fault::ReadFault;
+use domain::room::Room;
 
 // What a record stands for, and the byte after it.
 fn read_part<R: Record>(shape: Shape, bytes: &[u8], at: Position) -> Result<(R, usize), ReadFault>

@@ -5,12 +5,12 @@ ghost use Prim.Native.Nat.{_+_, _≤_};
 ghost use lib.ListN.{length, take};
 ghost use Rattle.files.specs.Formats.{bytesOf, fieldsOf};
 ghost use Rattle.files.specs.Reading.{readField, readFields, joinedTo, sizeOf, readRecord, entryWith};
-use crate::fault::Position;
-use crate::fault::ReadFault;
 use crate::field::Field;
 use crate::kind::Shape;
 use crate::numbers::has_bits;
 use crate::numbers::read_number;
+use domain::fault::Position;
+use domain::fault::ReadFault;
 
 // The value of a field that its bit tells to be present or not, and the byte after it. A domain's size is how many fluents or places it has.
 fn read_field(

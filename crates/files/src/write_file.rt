@@ -8,13 +8,13 @@ ghost use Rattle.std.specs.shelf.Lists.{joined};
 ghost use Rattle.files.specs.Contents.{recordBytes, headerBytes, fileBytes};
 ghost use Rattle.files.specs.Formats.{headerLength};
 ghost use Rattle.files.specs.Writing.{writeOutcome, placeAfter, Wrote, roomAfter, rawOf};
-use crate::fault::WriteFault;
 use crate::kind::Kind;
 use crate::kind::Part;
 use crate::numbers::write_number;
 use crate::record::Record;
 use crate::write_record::record_length;
 use crate::write_record::write_record;
+use domain::fault::WriteFault;
 
 // How much of the room is left after the records of the items, if they fit.
 fn room_after<R: Record>(kind: Kind, part: Part, items: &[R], room: usize) -> Option<usize>

@@ -8,7 +8,7 @@ use native.Mathlib.Omega.{arith}
 use Rattle.std.specs.declared.result.Result.{Result}
 use Rattle.std.specs.declared.result.Result.the-variants.{Ok, Err}
 use Rattle.std.proofs.shelf.Elements.{all-getD, all-from-getD}
-use Rattle.files.specs.declared.fault.ReadFault.{ReadFault}
+use Rattle.domain.specs.declared.fault.ReadFault.{ReadFault}
 use Rattle.files.specs.declared.kind.Kind.the-variants as kind
 use Rattle.files.specs.declared.kind.Part.the-variants as part
 use Rattle.files.specs.Contents.{Entry, File, ValidEntry}

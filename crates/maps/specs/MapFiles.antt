@@ -6,7 +6,7 @@ use Prim.Native.Nat.{ℕ, min}
 use lib.ListN.{getD}
 use Rattle.std.specs.declared.result.Result.{Result}
 use Rattle.std.specs.declared.result.Result.the-variants.{Ok, Err}
-use Rattle.files.specs.declared.fault.ReadFault.{ReadFault}
+use Rattle.domain.specs.declared.fault.ReadFault.{ReadFault}
 use Rattle.files.specs.declared.file.Unread.{Unread}
 use Rattle.files.specs.declared.kind.Kind.the-variants as kind
 use Rattle.files.specs.Contents.{Entry, File, fileBytes}

@@ -9,13 +9,13 @@ ghost use Rattle.maps.specs.MapFiles.{placeIn, moveEntry, entryMove, goalEntry
 use crate::field_map::FieldMap;
 use crate::moves::Move;
 use crate::place::Place;
-use files::fault::WriteFault;
+use domain::fault::WriteFault;
+use domain::room::Room;
 use files::file::Unread;
 use files::kind::Kind;
 use files::read_file::read_file;
 use files::record::Record;
 use files::record::value_at;
-use files::room::Room;
 use files::write_file::write_file;
 
 // The place that a field holds; a file's places take eight bits.

@@ -4,8 +4,9 @@ use Rattle.std.proofs.shelf.Results.{err-from-errBy}
 use Rattle.files.specs.Outcome.{contentsOf}
 use Rattle.std.specs.Of.Vec.{vec-items}
 use Rattle.std.specs.declared.result.Result.the-variants.{Ok}
-use Rattle.cards.specs.declared.fluents.FluentSet.{FluentSet}
-use Rattle.cards.specs.CardFiles.{setOf, asContents, readCard, ReadExactly}
+use Rattle.fluents.specs.declared.FluentSet.{FluentSet}
+use Rattle.cards.specs.CardFiles.{asContents, readCard, ReadExactly}
+use Rattle.fluents.specs.SetRecords.{setOf}
 use Rattle.cards.specs.Contents.{Contents}
 use Rattle.cards.proofs.FileLaws.{card-limits, card-exactly}
 use Rattle.cards.proofs.card.Card.read.Needs as need

@@ -8,8 +8,8 @@ use std::alloc::Global;
 // Room for 120 actions and 32 goals, the most that a domain has, and nothing in it.
 #[derive(Drop)]
 pub struct Room<S, G> {
-    pub(crate) actions: Vec<S>,
-    pub(crate) goals: Vec<G>,
+    pub actions: Vec<S>,
+    pub goals: Vec<G>,
     ghost empty: { (vec-len actions ≡ 0) × (vec-len goals ≡ 0) },
     ghost wide: { (120 ≤ vec-cap actions) × (32 ≤ vec-cap goals) },
 }

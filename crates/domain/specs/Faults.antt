@@ -1,12 +1,12 @@
 -- The numbers of the refusals, one definition for each kind of fault.
 use Prim.Native.Nat.{ℕ}
-use Rattle.files.specs.declared.fault.Position.{Position}
-use Rattle.files.specs.declared.fault.ReadFault.{ReadFault}
-use Rattle.files.specs.declared.fault.ReadFault.the-variants.{Letter, Header, Count, Start, Cut, Bits, Field, End}
-use Rattle.files.specs.declared.fault.RoomFault.{RoomFault}
-use Rattle.files.specs.declared.fault.RoomFault.the-variants.{Memory}
-use Rattle.files.specs.declared.fault.WriteFault.{WriteFault}
-use Rattle.files.specs.declared.fault.WriteFault.the-variants.{Place}
+use Rattle.domain.specs.declared.fault.Position.{Position}
+use Rattle.domain.specs.declared.fault.ReadFault.{ReadFault}
+use Rattle.domain.specs.declared.fault.ReadFault.the-variants.{Letter, Header, Count, Start, Cut, Bits, Field, End}
+use Rattle.domain.specs.declared.fault.RoomFault.{RoomFault}
+use Rattle.domain.specs.declared.fault.RoomFault.the-variants.{Memory}
+use Rattle.domain.specs.declared.fault.WriteFault.{WriteFault}
+use Rattle.domain.specs.declared.fault.WriteFault.the-variants.{Place}
 
 abbrev pub readNumber : ReadFault → ℕ
 readNumber (Letter p) = 1

@@ -1,6 +1,6 @@
 // Why a call on a file is refused. Each case has a number, by which the programs report it.
 ghost use mathlib.Core.Path.{_≡_};
-ghost use Rattle.files.specs.Faults.{readNumber, writeNumber, roomNumber, positionOf};
+ghost use Rattle.domain.specs.Faults.{readNumber, writeNumber, roomNumber, positionOf};
 
 // A place in a file. Records count from 0 for the header through actions and goals.
 #[derive(Clone, Copy, PartialEq, Eq, Debug)]

@@ -11,7 +11,7 @@ use Rattle.std.specs.Orderings.{Decides}
 use Rattle.std.proofs.shelf.Bits.{and-shr, or-shr, xor-shr, and-mod, or-mod, xor-mod, mod-below, shr-shr}
 use Rattle.std.proofs.shelf.Tests.{true≢false, eqb-true, eq-eqb}
 use Rattle.std.proofs.shelf.Ways.{tells}
-use Rattle.cards.specs.Fluents.{holds, Within, within}
+use Rattle.fluents.specs.Fluents.{holds, Within, within}
 
 -- what holds of the four pairs of bits holds of any two bits
 corners : (P : ℕ → ℕ → Type 0) → P 0 0 → P 0 1 → P 1 0 → P 1 1 → (x y : ℕ) → x < 2 → y < 2 → P x y

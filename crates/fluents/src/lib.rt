@@ -3,7 +3,9 @@ ghost use mathlib.Core.Path.{_≡_};
 ghost use mathlib.Core.Bool.{_||_, _&&_, not};
 ghost use Prim.Native.Nat.{ℕ};
 ghost use Rattle.std.specs.Orderings.{Decides};
-ghost use Rattle.cards.specs.Fluents.{holds, Within};
+ghost use Rattle.fluents.specs.Fluents.{holds, Within};
+
+pub mod set_record;
 
 // A set of fluents, numbered from 0: fluent i is in it where bit i is 1.
 #[derive(Clone, Copy, PartialEq, Eq, Debug)]

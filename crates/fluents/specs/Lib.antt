@@ -1,0 +1,2 @@
+pub mod Fluents
+pub mod SetRecords
