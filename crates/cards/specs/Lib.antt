@@ -1,4 +1,5 @@
-pub mod CardFiles
-pub mod Cards
-pub mod Contents
+-- to be read in this order
 pub mod Limits
+pub mod Contents
+pub mod Cards
+pub mod CardFiles

@@ -1,7 +1,10 @@
 // The memory of a domain, taken before it is read.
 ghost use mathlib.Core.Path.{_≡_};
+ghost use mathlib.Core.List.{[]};
 ghost use Prim.Native.Nat.{_≤_};
-ghost use Rattle.std.specs.Of.Vec.{vec-len, vec-cap};
+ghost use Rattle.std.specs.Of.Vec.{vec-len, vec-items, vec-cap};
+ghost use Rattle.std.specs.Vec.{made, refused};
+ghost use Rattle.domain.specs.Faults.{roomNumber};
 use crate::fault::RoomFault;
 use std::alloc::Global;
 
@@ -16,7 +19,11 @@ pub struct Room<S, G> {
 
 impl<S: Drop, G: Drop> Room<S, G> {
     // The one function that can fail for want of memory.
-    pub fn take(heap: Global) -> Result<Room<S, G>, RoomFault> {
+    pub fn take(heap: Global) -> Result<Room<S, G>, RoomFault>
+        ensures empty { λ r. ⌜ made r (λ room. (vec-items (room .actions) ≡ []) × (vec-items (room .goals) ≡ [])) ⌝ }
+        ensures wide { λ r. ⌜ made r (λ room. (120 ≤ vec-cap (room .actions)) × (32 ≤ vec-cap (room .goals))) ⌝ }
+        ensures memory { λ r. ⌜ refused r (λ fault. roomNumber fault ≡ 32) ⌝ }
+    {
         let Ok(actions) = Vec::with_capacity(heap, 120) else {
             return Err(RoomFault::Memory);
         };

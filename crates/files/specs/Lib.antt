@@ -1,7 +1,8 @@
-pub mod Contents
-pub mod Exact
-pub mod Formats
+-- to be read in this order
 pub mod Numbers
-pub mod Outcome
+pub mod Formats
+pub mod Contents
 pub mod Reading
+pub mod Exact
+pub mod Outcome
 pub mod Writing

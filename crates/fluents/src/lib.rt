@@ -21,7 +21,8 @@ impl FluentSet {
     pub fn bits(self) -> u64
         ensures { λ r. ⌜ r ≡ self .0 ⌝ }
     {
-        self.0
+        let FluentSet(bits) = self;
+        bits
     }
 
     pub fn contains(self, fluent: u8) -> bool

@@ -1,4 +1,5 @@
-pub mod Contents
+-- to be read in this order
 pub mod Limits
-pub mod MapFiles
+pub mod Contents
 pub mod Maps
+pub mod MapFiles
