@@ -1,5 +1,7 @@
 -- The numbers of the refusals, one definition for each kind of fault.
 use Prim.Native.Nat.{ℕ}
+use Rattle.domain.specs.declared.fault.LogFault.{LogFault}
+use Rattle.domain.specs.declared.fault.LogFault.the-variants.{Action, Width, Full, Empty}
 use Rattle.domain.specs.declared.fault.Position.{Position}
 use Rattle.domain.specs.declared.fault.ReadFault.{ReadFault}
 use Rattle.domain.specs.declared.fault.ReadFault.the-variants.{Letter, Header, Count, Start, Cut, Bits, Field, End}
@@ -20,6 +22,12 @@ readNumber (End p) = 8
 
 abbrev pub writeNumber : WriteFault → ℕ
 writeNumber Place = 9
+
+abbrev pub logNumber : LogFault → ℕ
+logNumber Action = 11
+logNumber Width = 12
+logNumber Full = 13
+logNumber Empty = 14
 
 abbrev pub roomNumber : RoomFault → ℕ
 roomNumber Memory = 32

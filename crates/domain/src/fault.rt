@@ -1,6 +1,6 @@
 // Why a call on a file is refused. Each case has a number, by which the programs report it.
 ghost use mathlib.Core.Path.{_≡_};
-ghost use Rattle.domain.specs.Faults.{readNumber, writeNumber, roomNumber, positionOf};
+ghost use Rattle.domain.specs.Faults.{readNumber, writeNumber, logNumber, roomNumber, positionOf};
 
 // A place in a file. Records count from 0 for the header through actions and goals.
 #[derive(Clone, Copy, PartialEq, Eq, Debug)]
@@ -74,6 +74,32 @@ impl WriteFault {
     {
         match self {
             WriteFault::Place => 9,
+        }
+    }
+}
+
+// Why an entry is not added to a log, or not dropped from it.
+#[derive(Clone, Copy, PartialEq, Eq, Debug)]
+pub enum LogFault {
+    // the domain has no action of that number
+    Action,
+    // the domain is too wide to be watched
+    Width,
+    // the log is full
+    Full,
+    // the log is empty
+    Empty,
+}
+
+impl LogFault {
+    pub fn number(self) -> u8
+        ensures { λ r. ⌜ r ≡ logNumber self ⌝ }
+    {
+        match self {
+            LogFault::Action => 11,
+            LogFault::Width => 12,
+            LogFault::Full => 13,
+            LogFault::Empty => 14,
         }
     }
 }

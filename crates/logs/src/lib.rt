@@ -1,0 +1,3 @@
+// The observation log.
+pub mod log;
+pub mod log_entries;

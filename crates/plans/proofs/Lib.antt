@@ -1,0 +1,4 @@
+pub mod Carrying
+pub mod Judging
+pub mod Stacking
+pub mod Watching
