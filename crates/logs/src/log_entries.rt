@@ -18,20 +18,28 @@ impl ObservationLog {
     pub fn new() -> ObservationLog
         ensures { λ r. ⌜ entries r ≡ [] ⌝ }
     {
-        ObservationLog { table: [0; 20], used: 0 }
+        ObservationLog {
+            table: [0; 20],
+            used: 0,
+        }
     }
 
     pub fn len(&self) -> usize
         ensures { λ r. ⌜ r ≡ length (entries (now (self .entry))) ⌝ }
     {
-        self.used
+        let count = self.used;
+        count
     }
 
     // The entry at a place, counted from 0, if there is one.
     pub fn entry(&self, place: usize) -> Option<u8>
         ensures { λ r. ⌜ r ≡ nth (entries (now (self .entry))) place ⌝ }
     {
-        if place < self.used { Some(self.table[place]) } else { None }
+        if place < self.used {
+            Some(self.table[place])
+        } else {
+            None
+        }
     }
 
     // Whether the action is one of the entries.
@@ -82,6 +90,10 @@ impl ObservationLog {
     pub fn advance(&self, count: usize, action: u8) -> usize
         ensures { λ r. ⌜ r ≡ advance (entries (now (self .entry))) count action ⌝ }
     {
-        if count < self.used && self.table[count] == action { count + 1 } else { count }
+        if count < self.used && self.table[count] == action {
+            count + 1
+        } else {
+            count
+        }
     }
 }

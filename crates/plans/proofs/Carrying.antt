@@ -40,11 +40,12 @@ carries-first a log plan c = record { place = place; within = within; same = sam
     rising (suc i) zero l h = absurd (omega arith)
 
 carries-skip : (a : ℕ) (log plan : List ℕ) → Carries log plan → Carries log (a ∷ plan)
-carries-skip a log plan c = record
-  { place = λ j. suc (c .place j)
-  ; within = λ j h. omega (arith, c .within j h)
-  ; same = λ j h. c .same j h
-  ; rising = λ i j l h. omega (arith, c .rising i j l h) }
+carries-skip a log plan c = record {
+  place = λ j. suc (c .place j);
+  within = λ j h. omega (arith, c .within j h);
+  same = λ j h. c .same j h;
+  rising = λ i j l h. omega (arith, c .rising i j l h);
+}
 
 -- and back: with the first entry at the front, or with nothing at the front
 front-place : (a n : ℕ) (plan : List ℕ) → 0 < n → getD (a ∷ plan) n 0 ≡ getD plan (n - 1) 0
@@ -54,25 +55,29 @@ front-place a (suc n) plan h = ap (λ m. getD plan m 0) (omega arith)
 unfirst : (x a : ℕ) (log plan : List ℕ) → Carries (x ∷ log) (a ∷ plan) → Carries log plan
 unfirst x a log plan c =
     let late : (j : ℕ) → j < length log → 0 < c .place (suc j) = λ j h. omega (arith, c .rising 0 (suc j) (omega arith) (omega arith)) in
-    record
-      { place = λ j. c .place (suc j) - 1
-      ; within = λ j h. omega (arith, c .within (suc j) (omega arith), late j h)
-      ; same = λ j h. sym (front-place a (c .place (suc j)) plan (late j h)) ∙ c .same (suc j) (omega arith)
-      ; rising = λ i j l h. omega (arith, c .rising (suc i) (suc j) (omega arith) (omega arith), late i (omega arith)) }
+    record {
+      place = λ j. c .place (suc j) - 1;
+      within = λ j h. omega (arith, c .within (suc j) (omega arith), late j h);
+      same = λ j h. sym (front-place a (c .place (suc j)) plan (late j h)) ∙ c .same (suc j) (omega arith);
+      rising = λ i j l h. omega (arith, c .rising (suc i) (suc j) (omega arith) (omega arith), late i (omega arith));
+    }
 
 unskip : (x a : ℕ) (log plan : List ℕ) → (x ≡ a → ⊥) → Carries (x ∷ log) (a ∷ plan) → Carries (x ∷ log) plan
 unskip x a log plan other c =
-    let first : (n : ℕ) → n ≡ c .place 0 → 0 < n = elim
-          [ zero ↦ (λ e. absurd (other (sym (c .same 0 (omega arith)) ∙ ap (λ m. getD (a ∷ plan) m 0) (sym e))))
-          | suc n ↦ (λ e. omega arith) ] in
-    let late : (j : ℕ) → j < length (x ∷ log) → 0 < c .place j = elim
-          [ zero ↦ (λ h. first (c .place 0) refl)
-          | suc j ↦ (λ h. omega (arith, c .rising 0 (suc j) (omega arith) h)) ] in
-    record
-      { place = λ j. c .place j - 1
-      ; within = λ j h. omega (arith, c .within j h, late j h)
-      ; same = λ j h. sym (front-place a (c .place j) plan (late j h)) ∙ c .same j h
-      ; rising = λ i j l h. omega (arith, c .rising i j l h, late i (omega arith)) }
+    let first : (n : ℕ) → n ≡ c .place 0 → 0 < n = elim [
+      | zero ↦ (λ e. absurd (other (sym (c .same 0 (omega arith)) ∙ ap (λ m. getD (a ∷ plan) m 0) (sym e))))
+      | suc n ↦ (λ e. omega arith)
+    ] in
+    let late : (j : ℕ) → j < length (x ∷ log) → 0 < c .place j = elim [
+      | zero ↦ (λ h. first (c .place 0) refl)
+      | suc j ↦ (λ h. omega (arith, c .rising 0 (suc j) (omega arith) h))
+    ] in
+    record {
+      place = λ j. c .place j - 1;
+      within = λ j h. omega (arith, c .within j h, late j h);
+      same = λ j h. sym (front-place a (c .place j) plan (late j h)) ∙ c .same j h;
+      rising = λ i j l h. omega (arith, c .rising i j l h, late i (omega arith));
+    }
 
 -- how the count grows
 module _ (log : List ℕ) (k a : ℕ) where
@@ -87,9 +92,9 @@ module _ (log : List ℕ) (k a : ℕ) where
 
   pub advance-low : k ≤ length log → advance log k a ≤ length log
   advance-low h = ⊎-elim
-    (λ l. ⊎-elim (λ e. omega (arith, grows l e)) (λ e. omega (arith, stays l e)) (cases-eq (getD log k 0) a))
-    (λ l. omega (arith, ended l))
-    (cases-lt k (length log))
+      (λ l. ⊎-elim (λ e. omega (arith, grows l e)) (λ e. omega (arith, stays l e)) (cases-eq (getD log k 0) a))
+      (λ l. omega (arith, ended l))
+      (cases-lt k (length log))
 
 -- a count that comes to the end tells the places
 pub counted-carries : (log plan : List ℕ) (k : ℕ) → k ≤ length log → advanceAll log k plan ≡ length log → Carries (drop k log) plan
@@ -97,11 +102,11 @@ counted-carries log [] k h e = subst (λ l. Carries l []) (sym (drop-all k log (
 counted-carries log (a ∷ plan) k h e =
     ⊎-elim
     (λ l. ⊎-elim
-      (λ same.
-        let next : advanceAll log (k + 1) plan ≡ length log = ap (λ n. advanceAll log n plan) (sym (grows log k a l same)) ∙ e in
-        subst (λ xs. Carries xs (a ∷ plan)) (ap (λ x. x ∷ drop (k + 1) log) (sym same) ∙ sym (drop-more log k 0 l)) (carries-first a (drop (k + 1) log) plan (counted-carries log plan (k + 1) (omega arith) next)))
-      (λ other. carries-skip a (drop k log) plan (counted-carries log plan k h (ap (λ n. advanceAll log n plan) (sym (stays log k a l other)) ∙ e)))
-      (cases-eq (getD log k 0) a))
+    (λ same.
+    let next : advanceAll log (k + 1) plan ≡ length log = ap (λ n. advanceAll log n plan) (sym (grows log k a l same)) ∙ e in
+    subst (λ xs. Carries xs (a ∷ plan)) (ap (λ x. x ∷ drop (k + 1) log) (sym same) ∙ sym (drop-more log k 0 l)) (carries-first a (drop (k + 1) log) plan (counted-carries log plan (k + 1) (omega arith) next)))
+    (λ other. carries-skip a (drop k log) plan (counted-carries log plan k h (ap (λ n. advanceAll log n plan) (sym (stays log k a l other)) ∙ e)))
+    (cases-eq (getD log k 0) a))
     (λ l. subst (λ xs. Carries xs (a ∷ plan)) (sym (drop-all k log l)) (carries-none (a ∷ plan)))
     (cases-lt k (length log))
 
@@ -115,10 +120,10 @@ carries-counted log [] k h c =
 carries-counted log (a ∷ plan) k h c =
     ⊎-elim
     (λ l.
-      let front : Carries (getD log k 0 ∷ drop (k + 1) log) (a ∷ plan) = subst (λ xs. Carries xs (a ∷ plan)) (drop-more log k 0 l) c in
-      ⊎-elim
-      (λ same. ap (λ n. advanceAll log n plan) (grows log k a l same) ∙ carries-counted log plan (k + 1) (omega arith) (unfirst (getD log k 0) a (drop (k + 1) log) plan front))
-      (λ other. ap (λ n. advanceAll log n plan) (stays log k a l other) ∙ carries-counted log plan k h (subst (λ xs. Carries xs plan) (sym (drop-more log k 0 l)) (unskip (getD log k 0) a (drop (k + 1) log) plan other front)))
-      (cases-eq (getD log k 0) a))
+    let front : Carries (getD log k 0 ∷ drop (k + 1) log) (a ∷ plan) = subst (λ xs. Carries xs (a ∷ plan)) (drop-more log k 0 l) c in
+    ⊎-elim
+    (λ same. ap (λ n. advanceAll log n plan) (grows log k a l same) ∙ carries-counted log plan (k + 1) (omega arith) (unfirst (getD log k 0) a (drop (k + 1) log) plan front))
+    (λ other. ap (λ n. advanceAll log n plan) (stays log k a l other) ∙ carries-counted log plan k h (subst (λ xs. Carries xs plan) (sym (drop-more log k 0 l)) (unskip (getD log k 0) a (drop (k + 1) log) plan other front)))
+    (cases-eq (getD log k 0) a))
     (λ l. ap (λ n. advanceAll log n plan) (ended log k a l) ∙ carries-counted log plan k h (subst (λ xs. Carries xs plan) (sym (drop-all k log l)) (carries-none plan)))
     (cases-lt k (length log))

@@ -41,22 +41,26 @@ module _ (d : Meaning) (log : List ℕ) (g : ℕ) where
       let p = stands .0 in
       let cheap = stands .1 .0 in
       let whole = stands .1 .1 in
-      omega
-        ( arith
-        , one .1 .1
-        , two .1 .1
-        , one .1 .0 .least p (cheap .of-kind)
-        , cheap .least (one .0) (one .1 .0 .of-kind)
-        , two .1 .0 .least p whole
-        , cheap .least (two .0) (two .1 .0 .of-kind .admitted) )
+      omega (
+        arith,
+        one .1 .1,
+        two .1 .1,
+        one .1 .0 .least p (cheap .of-kind),
+        cheap .least (one .0) (one .1 .0 .of-kind),
+        two .1 .0 .least p whole,
+        cheap .least (two .0) (two .1 .0 .of-kind .admitted),
+      )
 
 pub judges-rightly : (first second : Option ℕ) → JudgesRightly first second (verdictOf first second)
-judges-rightly None second = record
-  { says-so = λ d log g one two e. apart-no e
-  ; is-so = λ d log g one two s. absurd (one (s .0) (s .1 .0 .of-kind)) }
-judges-rightly (Some c) None = record
-  { says-so = λ d log g one two e. apart-cut e
-  ; is-so = λ d log g one two s. absurd (two (s .0) (s .1 .1)) }
-judges-rightly (Some c) (Some e) = record
-  { says-so = λ d log g one two v. equal-stands d log g c one (subst (λ n. LeastCost d (Whole d log g) (Some n)) (sym (eqb-true c e (equal-if (eqb c e) v))) two)
-  ; is-so = λ d log g one two s. cond-true _ _ _ (eq-eqb c e (stands-equal d log g c e one two s)) }
+judges-rightly None second = record {
+  says-so = λ d log g one two e. apart-no e;
+  is-so = λ d log g one two s. absurd (one (s .0) (s .1 .0 .of-kind));
+}
+judges-rightly (Some c) None = record {
+  says-so = λ d log g one two e. apart-cut e;
+  is-so = λ d log g one two s. absurd (two (s .0) (s .1 .1));
+}
+judges-rightly (Some c) (Some e) = record {
+  says-so = λ d log g one two v. equal-stands d log g c one (subst (λ n. LeastCost d (Whole d log g) (Some n)) (sym (eqb-true c e (equal-if (eqb c e) v))) two);
+  is-so = λ d log g one two s. cond-true _ _ _ (eq-eqb c e (stands-equal d log g c e one two s));
+}

@@ -67,14 +67,15 @@ module _ (d : Meaning) (log : List ℕ) (ok : Watchable d log) where
         ∙ ap (λ l. d .runs s a && mayRun l a (d .marked a)) over
 
     at-next : (a : ℕ) → watched d log .runs x a ≡ true → At (watched d log .next x a) (d .next s a) (advance log k a)
-    at-next a r = record
-      { state = ok .limits .next-in s a (at .state)
-      ; low = advance-low log k a (at .low)
-      ; is =
+    at-next a r = record {
+      state = ok .limits .next-in s a (at .state);
+      low = advance-low log k a (at .low);
+      is =
           cond-true _ _ x r
           ∙ ap (λ t. joinedState d (d .next t a) (advance (logOver d log) (count d x) a)) at-below
           ∙ ap (λ l. joinedState d (d .next s a) (advance l (count d x) a)) over
-          ∙ ap (λ n. joinedState d (d .next s a) (advance log n a)) at-count }
+          ∙ ap (λ n. joinedState d (d .next s a) (advance log n a)) at-count;
+    }
 
     at-meets : (g : ℕ) → watched d log .meets x g ≡ d .meets s g
     at-meets g = ap (λ b. b && d .meets (below d x) g) at-room ∙ ap (λ t. d .meets t g) at-below
@@ -141,20 +142,22 @@ module _ (d : Meaning) (log : List ℕ) (ok : Watchable d log) where
   plan-laws = record { plan-admitted = plan-admitted; admitted-plan = admitted-plan; complete-carries = complete-carries; carries-complete = carries-complete }
 
   pub whole-laws : WholeLaws d log
-  whole-laws = record
-    { complete-whole = λ g plan p e.
+  whole-laws = record {
+    complete-whole = λ g plan p e.
         let admitted = plan-admitted g plan p in
         let both = complete-carries g plan admitted e in
-        record { admitted = admitted; carries = both .0; complete = both .1 }
-    ; whole-complete = λ g plan w. (admitted-plan g plan (w .admitted), carries-complete g plan (w .admitted) (w .carries) (w .complete)) }
+        record { admitted = admitted; carries = both .0; complete = both .1 };
+    whole-complete = λ g plan w. (admitted-plan g plan (w .admitted), carries-complete g plan (w .admitted) (w .carries) (w .complete));
+  }
 
 -- The limits of a watched domain. A state that an action runs in has its two parts.
 module _ (d : Meaning) (log : List ℕ) (ok : Watchable d log) where
   parts-at : (x : ℕ) → count d x ≤ length log → At d log ok x (below d x) (count d x)
-  parts-at x h = record
-    { state = mod-below x (2 ^ d .width) (pow-pos (d .width))
-    ; low = h
-    ; is = sym (add-comm (below d x) (2 ^ d .width * count d x) ∙ div-add-mod x (2 ^ d .width)) }
+  parts-at x h = record {
+    state = mod-below x (2 ^ d .width) (pow-pos (d .width));
+    low = h;
+    is = sym (add-comm (below d x) (2 ^ d .width * count d x) ∙ div-add-mod x (2 ^ d .width));
+  }
 
   run-at : (x a : ℕ) → watched d log .runs x a ≡ true → At d log ok x (below d x) (count d x)
   run-at x a r =
@@ -169,24 +172,25 @@ module _ (d : Meaning) (log : List ℕ) (ok : Watchable d log) where
   width-if false e = omega (arith, ok .limits .width-high)
 
   limits-of : Limits (watched d log)
-  limits-of = record
-    { width-low = omega (arith, ok .limits .width-low)
-    ; width-high = width-if (leb (d .width) 55) refl
-    ; actions-low = ok .limits .actions-low
-    ; actions-high = ok .limits .actions-high
-    ; goals-low = ok .limits .goals-low
-    ; goals-high = ok .limits .goals-high
-    ; start-in = ltb-true _ _ (at-room d log ok _ _ _ (at-start d log ok))
-    ; next-in = λ x a h. ⊎-elim (next-room x a) (λ r. subst (λ y. y < 2 ^ (d .width + extraBits d)) (sym (cond-false _ _ x r)) h) (cases-bool (watched d log .runs x a))
-    ; cost-high = ok .limits .cost-high
-    ; next-same = λ x a r. cond-false _ _ x r
-    ; runs-no-state = λ x a h. and-left _ _ (le-ltb x _ h)
-    ; meets-no-state = λ x g h. and-left _ _ (le-ltb x _ h)
-    ; complete-no-state = λ x h. and-left _ _ (le-ltb x _ h)
-    ; runs-no-action = λ x a h. and-right (isState d log x) _ (and-right (leb (count d x) (length (logOver d log))) _ (and-left (d .runs (below d x) a) (mayRun (logOver d log) a (d .marked a)) (ok .limits .runs-no-action (below d x) a h)))
-    ; cost-no-action = ok .limits .cost-no-action
-    ; marked-no-action = λ a h. refl
-    ; meets-no-goal = λ x g h. and-right (isState d log x) _ (ok .limits .meets-no-goal (below d x) g h) }
+  limits-of = record {
+    width-low = omega (arith, ok .limits .width-low);
+    width-high = width-if (leb (d .width) 55) refl;
+    actions-low = ok .limits .actions-low;
+    actions-high = ok .limits .actions-high;
+    goals-low = ok .limits .goals-low;
+    goals-high = ok .limits .goals-high;
+    start-in = ltb-true _ _ (at-room d log ok _ _ _ (at-start d log ok));
+    next-in = λ x a h. ⊎-elim (next-room x a) (λ r. subst (λ y. y < 2 ^ (d .width + extraBits d)) (sym (cond-false _ _ x r)) h) (cases-bool (watched d log .runs x a));
+    cost-high = ok .limits .cost-high;
+    next-same = λ x a r. cond-false _ _ x r;
+    runs-no-state = λ x a h. and-left _ _ (le-ltb x _ h);
+    meets-no-state = λ x g h. and-left _ _ (le-ltb x _ h);
+    complete-no-state = λ x h. and-left _ _ (le-ltb x _ h);
+    runs-no-action = λ x a h. and-right (isState d log x) _ (and-right (leb (count d x) (length (logOver d log))) _ (and-left (d .runs (below d x) a) (mayRun (logOver d log) a (d .marked a)) (ok .limits .runs-no-action (below d x) a h)));
+    cost-no-action = ok .limits .cost-no-action;
+    marked-no-action = λ a h. refl;
+    meets-no-goal = λ x g h. and-right (isState d log x) _ (ok .limits .meets-no-goal (below d x) g h);
+  }
 
 -- a log that is followed is watchable over every domain
 over-idle : (b : Bool) (log : List ℕ) → cond b (cond b log []) [] ≡ cond b log []
@@ -199,10 +203,11 @@ over-few false log h = omega arith
 
 module _ (d : Meaning) (log : List ℕ) (l : Limits d) (few : length log ≤ 20) where
   pub over-watchable : Watchable d (logOver d log)
-  over-watchable = record
-    { limits = l
-    ; few = over-few (leb (d .width) 55) log few
-    ; wide = λ h. cond-false _ log [] (lt-leb (d .width) 55 h) }
+  over-watchable = record {
+    limits = l;
+    few = over-few (leb (d .width) 55) log few;
+    wide = λ h. cond-false _ log [] (lt-leb (d .width) 55 h);
+  }
 
   over-same : watched d (logOver d log) ≡ watched d log
   over-same = ap (watchedBy d) (over-idle (leb (d .width) 55) log)

@@ -4,16 +4,20 @@ ghost use Prim.Native.Nat.{_+_, _^_, _<_};
 ghost use lib.Dec.{ltb};
 ghost use Rattle.logs.specs.Entries.{entries};
 ghost use Rattle.plans.specs.Watched.{extraBits, logOver, below, count, watched};
-use logs::log::ObservationLog;
 use crate::watched::Watched;
 use domain::Domain;
+use logs::log::ObservationLog;
 
 impl<D: Domain> Watched<D> {
     // The log that is followed: none over a domain that is too wide.
     fn followed(&self) -> ObservationLog
         ensures { λ r. ⌜ entries r ≡ logOver (meaning (now (self .entry) .domain)) (entries (now (self .entry) .log)) ⌝ }
     {
-        if self.domain.width() <= 55 { self.log } else { ObservationLog::new() }
+        if self.domain.width() <= 55 {
+            self.log
+        } else {
+            ObservationLog::new()
+        }
     }
 
     // The state below.

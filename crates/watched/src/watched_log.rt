@@ -10,10 +10,10 @@ ghost use Rattle.logs.specs.Entries.{entries};
 ghost use Rattle.plans.specs.Laws.{Watchable, PlanLaws, WholeLaws};
 ghost use Rattle.watched.specs.Noting.{addOutcome, dropOutcome};
 ghost use Rattle.plans.specs.Stacks.{Stackable, StackLaws};
-use logs::log::ObservationLog;
 use crate::watched::Watched;
 use domain::Domain;
 use domain::fault::LogFault;
+use logs::log::ObservationLog;
 
 impl<D: Domain> Watched<D> {
     // The domain with an empty log.
@@ -57,7 +57,11 @@ impl<D: Domain> Watched<D> {
         if self.domain.width() > 55 {
             return Err(LogFault::Width);
         }
-        if self.log.append(action) { Ok(()) } else { Err(LogFault::Full) }
+        if self.log.append(action) {
+            Ok(())
+        } else {
+            Err(LogFault::Full)
+        }
     }
 
     // The last entry less.

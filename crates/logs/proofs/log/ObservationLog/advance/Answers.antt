@@ -10,6 +10,7 @@ returns-then-self-count c =
 pub returns-else-count-self : need.returns-else-count-self
 returns-else-count-self c =
     let log = c .args .self .now in
-    elim (c .else-count-self .came)
-      [ else-count-self·by·then-count-self·else-self-count w ↦ front-other (log .table) (log .used) (fits-table log) (c .args .count) (c .args .action) (w .if-count-self .taken) (w .if-self-count .left)
-      | else-count-self·by·else-count-self w ↦ front-ended (log .table) (log .used) (fits-table log) (c .args .count) (c .args .action) (w .if-count-self .left) ]
+    elim (c .else-count-self .came) [
+      | else-count-self·by·then-count-self·else-self-count w ↦ front-other (log .table) (log .used) (fits-table log) (c .args .count) (c .args .action) (w .if-count-self .taken) (w .if-self-count .left)
+      | else-count-self·by·else-count-self w ↦ front-ended (log .table) (log .used) (fits-table log) (c .args .count) (c .args .action) (w .if-count-self .left)
+    ]

@@ -10,6 +10,7 @@ pub returns : need.returns
 returns c =
     let log = c .args .self .now in
     let fits = fits-table log in
-    record
-      { value = front-nth (log .table) (log .used) fits (log .used - 1) (omega (arith, c .if-self-eq0 .left)) ∙ ap (λ n. nth (take (log .used) (log .table)) (n - 1)) (sym (front-length (log .table) (log .used) fits))
-      ; entries = front-less (log .table) (log .used) fits }
+    record {
+      value = front-nth (log .table) (log .used) fits (log .used - 1) (omega (arith, c .if-self-eq0 .left)) ∙ ap (λ n. nth (take (log .used) (log .table)) (n - 1)) (sym (front-length (log .table) (log .used) fits));
+      entries = front-less (log .table) (log .used) fits;
+    }

@@ -13,10 +13,10 @@ add-result g c =
     let d = g .D·Domain .meaning (self .domain) in
     let a = c .args .action in
     let known = next-sum d (entries (self .log)) (g .D·Domain·met .limits (self .domain)) (few-entries (self .log)) (c .args .state) a (c .next .result) (c .advance-carried .result) (c .width .result)
-          (sym (c .runs .ensures) ∙ c .if-not-runs .left)
-          (c .next .ensures ∙ ap (λ s. d .next s a) (c .below .ensures))
-          (c .advance-carried .ensures ∙ ap (λ l. advance l (c .count .result) a) (c .followed .ensures) ∙ ap (λ k. advance (logOver d (entries (self .log))) k a) (c .count .ensures))
-          (c .width .ensures) in
+    (sym (c .runs .ensures) ∙ c .if-not-runs .left)
+    (c .next .ensures ∙ ap (λ s. d .next s a) (c .below .ensures))
+    (c .advance-carried .ensures ∙ ap (λ l. advance l (c .count .result) a) (c .followed .ensures) ∙ ap (λ k. advance (logOver d (entries (self .log))) k a) (c .count .ensures))
+    (c .width .ensures) in
     omega (arith, known .1)
 
 pub returns : need.returns
@@ -25,7 +25,7 @@ returns g c =
     let d = g .D·Domain .meaning (self .domain) in
     let a = c .args .action in
     next-sum d (entries (self .log)) (g .D·Domain·met .limits (self .domain)) (few-entries (self .log)) (c .args .state) a (c .next .result) (c .advance-carried .result) (c .width .result)
-      (sym (c .runs .ensures) ∙ c .if-not-runs .left)
-      (c .next .ensures ∙ ap (λ s. d .next s a) (c .below .ensures))
-      (c .advance-carried .ensures ∙ ap (λ l. advance l (c .count .result) a) (c .followed .ensures) ∙ ap (λ k. advance (logOver d (entries (self .log))) k a) (c .count .ensures))
-      (c .width .ensures) .0
+    (sym (c .runs .ensures) ∙ c .if-not-runs .left)
+    (c .next .ensures ∙ ap (λ s. d .next s a) (c .below .ensures))
+    (c .advance-carried .ensures ∙ ap (λ l. advance l (c .count .result) a) (c .followed .ensures) ∙ ap (λ k. advance (logOver d (entries (self .log))) k a) (c .count .ensures))
+    (c .width .ensures) .0
