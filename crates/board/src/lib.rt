@@ -1,4 +1,6 @@
 // The board: a row for each goal, with what the last report on it said.
+#![tactic(auto)]
+
 pub mod board;
 pub mod board_rows;
 pub mod row;

@@ -1,4 +1,6 @@
 // Set-up cards: a planning domain whose states are sets of fluents.
+#![tactic(auto)]
+
 pub mod action;
 pub mod card;
 pub mod card_domain;

@@ -1,4 +1,6 @@
 // Compiling a log into a card, which then has the log in its fluents, its actions and its goals.
+#![tactic(auto)]
+
 pub mod compile;
 pub mod fault;
 mod parts;

@@ -1,4 +1,6 @@
 // A planning domain: states, the actions between them with their costs, a start and goals.
+#![tactic(auto)]
+
 ghost use Rattle.std.specs.Prelude.{◌≡◌};
 ghost use Rattle.domain.specs.Meaning.{Meaning, Limits};
 

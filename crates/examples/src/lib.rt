@@ -1,4 +1,6 @@
 // The sample domains as files, with what their goals come to under some logs.
+#![tactic(auto)]
+
 ghost use Rattle.examples.specs.Worked.{WorkedExamples};
 
 // A card of a calibration, a line for each record: the header, the actions open, lamp on, flat, frame, lamp off and close, and three goals.

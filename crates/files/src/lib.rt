@@ -1,4 +1,6 @@
 // Domain files: the two formats, read and written by one set of functions.
+#![tactic(auto)]
+
 mod field;
 pub mod file;
 mod header;

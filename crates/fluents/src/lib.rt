@@ -1,4 +1,6 @@
 // Sets of fluents.
+#![tactic(auto)]
+
 ghost use Rattle.std.specs.Prelude.{◌≡◌, ℕ, not, ◌&&◌, ◌||◌, Decides};
 ghost use Rattle.fluents.specs.Fluents.{holds, Within};
 

@@ -1,4 +1,6 @@
 // The observation log.
+#![tactic(auto)]
+
 pub mod log;
 pub mod log_entries;
 #[cfg(test)]

@@ -1,4 +1,6 @@
 // Field maps: a planning domain whose states are places.
+#![tactic(auto)]
+
 pub mod field_map;
 pub mod map_domain;
 pub mod map_file;

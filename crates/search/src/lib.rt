@@ -1,4 +1,6 @@
 // The pair of least costs and a cheapest plan, for any domain and goal.
+#![tactic(auto)]
+
 mod ends;
 pub mod entry;
 mod explore;

@@ -1,4 +1,6 @@
 // Tests that need several crates.
+#![tactic(auto)]
+
 #[cfg(test)]
 mod domains;
 #[cfg(test)]

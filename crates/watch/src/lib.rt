@@ -1,4 +1,6 @@
 // The watch: a watched domain and a board.
+#![tactic(auto)]
+
 pub mod call;
 pub mod fault;
 pub mod log_calls;

@@ -1,4 +1,6 @@
 // The watched domain: a domain with a log, which is again a domain.
+#![tactic(auto)]
+
 pub mod watched;
 pub mod watched_domain;
 pub mod watched_log;
