@@ -1,11 +1,11 @@
 -- The verdict on two least costs is right.
-use Rattle.std.proofs.Common.{◌≡◌, ℕ, ◌≤◌, Bool, true, false, cond, eqb, List, Some, None, Option, sym, refl, ap, ◌∙◌, subst, ⊎_elim, arith}
-use Rattle.std.proofs.lemmas.Bool.{cases_eq, eqb-true, eq-eqb, cond-true}
+use Rattle.std.proofs.Common.{◌≡◌, ℕ, ◌≤◌, Bool, true, false, cond, eqb, List, Some, None, Option, sym, refl, subst, arith}
+use Rattle.std.proofs.lemmas.Bool.{eqb-true, eq-eqb, cond-true}
 use Rattle.plans.specs.declared.verdict.Verdict.{Verdict}
 use Rattle.plans.specs.declared.verdict.Verdict.TheVariants as verdict
 use Rattle.plans.specs.Logs.{Admitted, Whole, Stands}
 use Rattle.domain.specs.Meaning.{Meaning}
-use Rattle.plans.specs.Plans.{cost_of, Cheapest, LeastCost}
+use Rattle.plans.specs.Plans.{cost_of, LeastCost}
 use Rattle.plans.specs.Verdicts.{verdict_of, JudgesRightly}
 
 apart_no : {C : Type 0} → ◌≡◌ {A = Verdict} verdict.NoPlan verdict.Stands → C

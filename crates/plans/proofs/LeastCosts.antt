@@ -1,5 +1,5 @@
 -- Least costs over a watched domain are least costs over the domain below.
-use Rattle.std.proofs.Common.{◌≡◌, ℕ, ◌+◌, ◌≤◌, List, [], ◌∷◌, Some, None, Option, sym, refl, ap, ◌∙◌, subst, arith}
+use Rattle.std.proofs.Common.{◌≡◌, ℕ, ◌+◌, List, [], ◌∷◌, Some, None, Option, sym, refl, ap, ◌∙◌, arith}
 use Rattle.domain.specs.Meaning.{Meaning}
 use Rattle.plans.specs.Laws.{Watchable}
 use Rattle.plans.specs.Logs.{Admitted, Whole}

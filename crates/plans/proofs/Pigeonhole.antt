@@ -4,7 +4,7 @@ use Rattle.std.specs.List.{ContainsAt as Has, remove}
 use Rattle.std.proofs.lemmas.List.Edits.{length-remove, get_or-remove_below, get_or-remove_above}
 use Rattle.std.proofs.lemmas.Bool.{cases_lt, cases_eq}
 use Rattle.domain.specs.Meaning.{Meaning}
-use Rattle.plans.specs.Reachable.{AtMost, MoreThan, NeverBoth}
+use Rattle.plans.specs.Reachable.{NeverBoth}
 
 -- another number stays in the list where one is removed
 stays : (ys : List ℕ) (k x z : ℕ) → k < length ys → get_or ys k 0 ≡ x → (x ≡ z → ⊥) → Has ys z → Has (remove ys k) z

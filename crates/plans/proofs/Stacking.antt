@@ -1,9 +1,8 @@
 -- The plans of a stack of logs.
-use Rattle.std.proofs.Common.{◌≡◌, ℕ, true, false, List, [], ◌∷◌, sym, ◌∙◌}
+use Rattle.std.proofs.Common.{◌≡◌, ℕ, true, List, [], ◌∷◌, sym}
 use Rattle.std.proofs.lemmas.Bool.{true≢false}
-use Rattle.plans.specs.Logs.{occurs, Carries, Admitted, Whole}
+use Rattle.plans.specs.Logs.{occurs, Whole}
 use Rattle.domain.specs.Meaning.{Meaning}
-use Rattle.plans.specs.Plans.{after, PlanFor}
 use Rattle.plans.specs.Laws.{WholeLaws}
 use Rattle.plans.specs.Stacks.{stack, Stackable, MarksLogged, WholeBelow, StackLaws}
 use Rattle.plans.proofs.Watching.{whole_laws}

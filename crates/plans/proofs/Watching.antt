@@ -1,11 +1,11 @@
 -- A watched domain runs as the domain below does, and counts the entries of its log.
-use Rattle.std.proofs.Common.{◌≡◌, ℕ, ◌+◌, ◌*◌, ◌/◌, ◌%◌, ◌^◌, ◌<◌, ◌≤◌, Bool, true, false, cond, not, ◌&&◌, ◌||◌, eqb, ltb, leb, ◌⊎◌, List, [], ◌∷◌, length, get_or, drop, sym, refl, ap, ◌∙◌, subst, inl, inr, ⊎_elim, add-zero, mod-eq_of_lt, mul_comm, add_comm, mul-zero, arith}
+use Rattle.std.proofs.Common.{◌≡◌, ℕ, ◌+◌, ◌*◌, ◌/◌, ◌%◌, ◌^◌, ◌<◌, ◌≤◌, Bool, true, false, cond, ◌&&◌, eqb, ltb, leb, List, [], ◌∷◌, length, sym, refl, ap, ◌∙◌, subst, ⊎_elim, add-zero, mod-eq_of_lt, mul_comm, add_comm, mul-zero, arith}
 use native.Mathlib.Nat.{div-add-mod, pow-le-pow_right}
 use Rattle.std.proofs.lemmas.Nat.{pow-add, pow_pos, mul-le, mod_below, shr_high, mod_low}
 use Rattle.std.proofs.lemmas.Bool.{cases_Bool, and_parts, and_from, and_left, and_right, or_cases, or_left, or_right, not_from_true, not_from_false, leb-true, leb-false, le-leb, lt-leb, lt-ltb, le-ltb, ltb-true, eqb-true, eq-eqb, cond-true, cond-false, true≢false}
-use Rattle.plans.specs.Logs.{occurs, Carries, Admitted, Whole}
+use Rattle.plans.specs.Logs.{occurs, Carries, Admitted}
 use Rattle.domain.specs.Meaning.{Meaning, Limits}
-use Rattle.plans.specs.Plans.{after, RunsAll, PlanFrom, PlanFor}
+use Rattle.plans.specs.Plans.{after, RunsAll, PlanFor}
 use Rattle.plans.specs.Counting.{may_run, advance, advance_all}
 use Rattle.plans.specs.Laws.{Watchable, last_state, PlanLaws, WholeLaws}
 use Rattle.plans.specs.Watched.{extra_bits, log_over, below, count, joined_state, is_state, watched_by, watched}
