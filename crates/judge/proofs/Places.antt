@@ -1,8 +1,7 @@
 -- The places of the entries that a list carries, one action after another.
-use Rattle.std.proofs.Common.{◌≡◌, ℕ, ◌+◌, ◌<◌, ◌≤◌, Bool, true, false, cond, ◌&&◌, eqb, ltb, ◌≢◌, List, [], ◌∷◌, ◌++◌, length, get_or, take, drop, set, sym, refl, ap, ◌∙◌, subst, ⊎_elim, arith}
-use Rattle.std.proofs.lemmas.List.{take_more, length_push, length-set, length-take-le, get_or_append_left, get_or_push, get_or-set_same, get_or-set_other, get_or-take, drop-set-lt, drop-drop}
+use Rattle.std.proofs.Common.{◌≡◌, ℕ, ◌+◌, ◌<◌, ◌≤◌, cond, ◌&&◌, eqb, ltb, List, [], ◌∷◌, ◌++◌, length, get_or, take, drop, set, sym, refl, ap, ◌∙◌, subst, ⊎_elim, arith}
+use Rattle.std.proofs.lemmas.List.{take_more, length_push, length-take-le, get_or_append_left, get_or_push, get_or-set_same, get_or-set_other, get_or-take, drop-set-lt, drop-drop}
 use Rattle.std.proofs.lemmas.Bool.{cases_Bool, cases_lt, and_parts, ltb-true, eqb-true, lt-ltb, cond-true, cond-false}
-use Rattle.plans.specs.Logs.{Carries}
 use Rattle.plans.specs.Counting.{advance, advance_all}
 use Rattle.plans.proofs.Carrying.{advance_low, carries_counted}
 use Rattle.judge.specs.Carried.{CarriedAt, NoneLonger}

@@ -18,10 +18,10 @@ pub struct Course {
 impl Course {
     pub fn of<D: Domain>(domain: &D, list: &[u8]) -> Course
         ensures within { result.ran ≤ length list.now }
-        ensures runs { RunsAll (meaning domain.now) (meaning domain.now).start (take result.ran list.now) }
-        ensures stops { result.ran < length list.now → (meaning domain.now).runs result.last (slice_index list.now result.ran) ≡ false }
-        ensures last { result.last ≡ after (meaning domain.now) (meaning domain.now).start (take result.ran list.now) }
-        ensures cost { result.cost ≡ cost_of (meaning domain.now) (take result.ran list.now) }
+        ensures runs { RunsAll (D.meaning domain.now) (D.meaning domain.now).start (take result.ran list.now) }
+        ensures stops { result.ran < length list.now → (D.meaning domain.now).runs result.last (slice_index list.now result.ran) ≡ false }
+        ensures last { result.last ≡ after (D.meaning domain.now) (D.meaning domain.now).start (take result.ran list.now) }
+        ensures cost { result.cost ≡ cost_of (D.meaning domain.now) (take result.ran list.now) }
     {
         let mut last = domain.start();
         let mut cost = 0;

@@ -8,7 +8,7 @@ use logs::log::ObservationLog;
 
 // Whether every marked action of the list is in the log.
 pub fn admits<D: Domain>(domain: &D, log: &ObservationLog, list: &[u8]) -> bool
-    ensures { Decides result (Logged (meaning domain.now) (entries log.now) list.now) }
+    ensures { Decides result (Logged (D.meaning domain.now) (entries log.now) list.now) }
 {
     for action in list {
         if !log.may_run(*action, domain.marked(*action)) {

@@ -1,9 +1,8 @@
 -- A log of few enough bytes is read entry by entry.
-use Rattle.std.proofs.Common.{◌≡◌, ℕ, ◌+◌, ◌<◌, ◌≤◌, true, false, cond, ◌&&◌, ltb, leb, List, [], ◌∷◌, length, get_or, drop, Ok, Err, Result, sym, ap, ◌∙◌}
+use Rattle.std.proofs.Common.{◌≡◌, ℕ, ◌+◌, ◌<◌, ◌≤◌, true, false, cond, ◌&&◌, List, length, get_or, drop, Ok, Err, sym, ap, ◌∙◌}
 use Rattle.std.proofs.lemmas.List.{at_drop_more, at_drop_all}
 use Rattle.std.proofs.lemmas.Bool.{lt-ltb, le-ltb, le-leb, cond-true, cond-false}
-use Rattle.domain.specs.declared.fault.LogFault.{LogFault}
-use Rattle.domain.specs.declared.fault.LogFault.TheVariants.{Action, Full}
+use Rattle.domain.specs.declared.fault.LogFault.TheVariants.{Action}
 use Rattle.logs.specs.Reading.{all_below, read_log}
 
 module _ (bytes : List ℕ) (actions : ℕ) where

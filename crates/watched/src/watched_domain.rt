@@ -12,7 +12,7 @@ use logs::log::ObservationLog;
 impl<D: Domain> Watched<D> {
     // The log that is followed: none over a domain that is too wide.
     fn followed(&self) -> ObservationLog
-        ensures { entries result ≡ log_over (meaning self.now.domain) (entries self.now.log) }
+        ensures { entries result ≡ log_over (D.meaning self.now.domain) (entries self.now.log) }
     {
         if self.domain.width() <= 55 {
             self.log
@@ -23,20 +23,20 @@ impl<D: Domain> Watched<D> {
 
     // The state below.
     fn below(&self, state: u64) -> u64
-        ensures { result ≡ below (meaning self.now.domain) state }
+        ensures { result ≡ below (D.meaning self.now.domain) state }
     {
         state % (1u64 << self.domain.width())
     }
 
     // How many entries were carried.
     fn count(&self, state: u64) -> u64
-        ensures { result ≡ count (meaning self.now.domain) state }
+        ensures { result ≡ count (D.meaning self.now.domain) state }
     {
         state >> self.domain.width()
     }
 
     fn is_state(&self, state: u64) -> bool
-        ensures { result ≡ nat_lt state (2 ^ ((meaning self.now.domain).width + extra_bits (meaning self.now.domain))) }
+        ensures { result ≡ nat_lt state (2 ^ ((D.meaning self.now.domain).width + extra_bits (D.meaning self.now.domain))) }
     {
         let width = self.domain.width();
         let bits = if width <= 55 { width + 5 } else { width };

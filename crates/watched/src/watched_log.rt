@@ -46,7 +46,7 @@ impl<D: Domain> Watched<D> {
 
     // One entry more at the end of the log.
     pub fn add_entry(&mut self, action: u8) -> Result<(), LogFault>
-        ensures value { result ≡ add_outcome (meaning self.old.domain) (entries self.old.log) action }
+        ensures value { result ≡ add_outcome (D.meaning self.old.domain) (entries self.old.log) action }
         ensures log { entries self.new.log ≡ (if is_ok result then entries self.old.log ++ (action ∷ []) else entries self.old.log) }
         ensures domain { self.new.domain ≡ self.old.domain }
     {

@@ -1,10 +1,10 @@
-use Rattle.std.proofs.Common.{◌≡◌, ◌<◌, ◌≤◌, length, take, set, sym, refl, ap, ◌∙◌, subst, arith}
+use Rattle.std.proofs.Common.{◌≡◌, ◌≤◌, length, take, sym, ap, ◌∙◌, subst, arith}
 use Rattle.std.proofs.lemmas.List.{take_all}
 use Rattle.std.proofs.lemmas.Bool.{le-leb}
 use Rattle.logs.specs.Entries.{entries}
 use Rattle.plans.specs.Counting.{advance_all}
 use Rattle.judge.specs.Carried.{CarriedAt, NoneLonger}
-use Rattle.judge.proofs.Places.{Followed, followed_none, followed_passed, followed_taken, none_longer}
+use Rattle.judge.proofs.Places.{followed_none, followed_passed, followed_taken, none_longer}
 use Rattle.judge.proofs.carrying.carried.Goals as goal
 use Rattle.judge.proofs.carrying.carried.Goals.{then-grown-count, else-grown-count}
 
@@ -17,11 +17,11 @@ loop-place-preserved c =
     let list = c.args.list.now in
     let before = c.args.places.now in
     let loop = c.loop-place in
-    let grown = c.advance_grown.result in
+    let grown = c.advance-grown.result in
     let room : length log ≤ length loop.places = omega (arith, c.len.ensures, c.if-places-len.false, loop.auto.places) in
     elim c.if-grown-count.branch [
-      | then-grown-count w ↦ rw (w.places-is, w.count-is) (followed_taken log list before loop.places loop.place loop.count grown loop.invariant c.loop-place-test.true c.advance_grown.ensures room w.if-grown-count.true)
-      | else-grown-count w ↦ rw (w.places-is, w.count-is) (followed_passed log list before loop.places loop.place loop.count grown loop.invariant c.loop-place-test.true c.advance_grown.ensures w.if-grown-count.false)
+      | then-grown-count w ↦ rw (w.places-is, w.count-is) (followed_taken log list before loop.places loop.place loop.count grown loop.invariant c.loop-place-test.true c.advance-grown.ensures room w.if-grown-count.true)
+      | else-grown-count w ↦ rw (w.places-is, w.count-is) (followed_passed log list before loop.places loop.place loop.count grown loop.invariant c.loop-place-test.true c.advance-grown.ensures w.if-grown-count.false)
     ]
 
 pub returns : goal.returns

@@ -27,7 +27,7 @@ loop-ran-preserved g c =
     (can_run d c.loop-ran.last (get_or list c.loop-ran.ran 0) c.runs.result true c.runs.ensures c.if-not-runs.false)
     c.next-last.ensures
     (omega (arith, c.from-cost.ensures, c.cost.ensures))
-    (omega (arith, c.from-cost.ensures, c.cost.type-inv))
+    (omega (arith, c.from-cost.ensures, c.cost.type_inv))
 
 pub returns : goal.returns
 returns g c =

@@ -1,4 +1,4 @@
-use Rattle.std.proofs.Common.{◌≡◌, sym, ap, ◌∙◌, arith}
+use Rattle.std.proofs.Common.{sym, ap, ◌∙◌, arith}
 use Rattle.plans.specs.Counting.{advance}
 use Rattle.logs.specs.Entries.{entries}
 use Rattle.plans.specs.Watched.{log_over}
@@ -6,8 +6,8 @@ use Rattle.logs.proofs.Fronts.{few_entries}
 use Rattle.plans.proofs.Watching.{next_sum}
 use Rattle.watched.proofs.watched_domain.WatchedDomain.next.Goals as goal
 
-pub overflow-add-result : goal.overflow-add-result
-overflow-add-result g c =
+pub overflow_add-result : goal.overflow_add-result
+overflow_add-result g c =
     let self = c.args.self.now in
     let d = g.D.Domain.meaning self.domain in
     let a = c.args.action in
