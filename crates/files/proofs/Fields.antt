@@ -1,12 +1,10 @@
 -- Fields of a record: what is read is what was written.
-use Rattle.std.proofs.Common.{◌≡◌, ℕ, zero, suc, ◌+◌, ◌-◌, ◌*◌, ◌/◌, ◌%◌, ◌^◌, ◌<◌, ◌≤◌, Bool, true, false, cond, not, ◌&&◌, eqb, ltb, List, [], ◌∷◌, ◌++◌, length, get_or, take, drop, Ok, Err, Result, sym, refl, ap, ◌∙◌, subst, append_assoc, add-zero, add_assoc, arith}
-use native.Mathlib.Nat.{pow-le-pow_right}
-use Rattle.std.specs.List.{AllByRecursion as All}
+use Rattle.std.proofs.Common.{◌≡◌, ℕ, ◌+◌, ◌*◌, ◌/◌, ◌%◌, ◌^◌, ◌<◌, ◌≤◌, Bool, true, false, cond, ◌&&◌, eqb, ltb, List, [], ◌∷◌, ◌++◌, length, get_or, take, drop, Ok, Err, sym, refl, ap, ◌∙◌, subst, append_assoc, add-zero, arith}
+use Rattle.std.specs.List.{AllByRecursion}
 use Rattle.std.proofs.ByRecursion.{All-take, All-drop}
 use Rattle.std.proofs.lemmas.List.{take-append-drop, drop-drop, length-take-le, length-drop, length-append, take_at, drop_at}
 use Rattle.std.proofs.lemmas.Bool.{and_parts, and_from, not-false, ltb-true, lt-ltb, eqb-true, eqb-false, eq-eqb, ne_eqb}
 use Rattle.std.proofs.lemmas.Nat.{pow_pos}
-use Rattle.domain.specs.declared.fault.ReadFault.{ReadFault}
 use Rattle.domain.specs.declared.fault.ReadFault.TheVariants as Refused
 use Rattle.files.specs.declared.field.Field.{Field}
 use Rattle.files.specs.declared.field.Field.TheVariants.{Set, Place, Cost}
@@ -130,7 +128,7 @@ module _ (bs : List ℕ) (size r at : ℕ) (f : Field) (v : ℕ) (tail : List �
 
 -- All fields that were written.
 abbrev pub Narrow : ℕ → List Field → Type 0
-Narrow size fs = All (λ f. limit_of size f ≤ 256 ^ bytes_of f) fs
+Narrow size fs = AllByRecursion (λ f. limit_of size f ≤ 256 ^ bytes_of f) fs
 
 pub size_written : (fs : List Field) (vs : List ℕ) (top : ℕ) → size_of (bit_map fs vs top) fs ≡ length (all_field_bytes fs vs)
 size_written [] vs top = refl

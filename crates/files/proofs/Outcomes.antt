@@ -1,5 +1,5 @@
 -- What an accepted step tells of the steps in it.
-use Rattle.std.proofs.Common.{◌≡◌, ℕ, Bool, true, false, cond, List, ◌∷◌, Ok, Err, Result, sym, refl, ap, arith}
+use Rattle.std.proofs.Common.{◌≡◌, ℕ, Bool, true, false, cond, List, ◌∷◌, Ok, Err, Result, refl, arith}
 use Rattle.domain.specs.declared.fault.ReadFault.{ReadFault}
 use Rattle.files.specs.Reading.{then, with_first}
 

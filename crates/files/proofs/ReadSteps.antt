@@ -1,15 +1,15 @@
 -- Steps of the loops that read.
-use Rattle.std.proofs.Common.{◌≡◌, ℕ, suc, ◌+◌, ◌-◌, ◌/◌, ◌<◌, ◌≤◌, Bool, true, false, cond, ◌&&◌, ltb, List, [], ◌∷◌, ◌++◌, length, get_or, take, drop, Ok, Err, Result, sym, refl, ap, ◌∙◌, append_assoc, add-zero, add_assoc, arith}
+use Rattle.std.proofs.Common.{◌≡◌, ℕ, suc, ◌+◌, ◌-◌, ◌/◌, ◌<◌, ◌≤◌, Bool, true, false, cond, List, [], ◌∷◌, ◌++◌, length, get_or, drop, Ok, Err, Result, sym, refl, ap, ◌∙◌, append_assoc, add-zero, add_assoc, arith}
 use Rattle.std.proofs.lemmas.List.{at_drop_more, at_drop_all, append-nil}
 use Rattle.domain.specs.declared.fault.ReadFault.{ReadFault}
 use Rattle.files.specs.declared.field.Field.{Field}
 use Rattle.files.specs.declared.field.Field.TheVariants.{Set, Place, Cost}
 use Rattle.files.specs.declared.kind.Kind.{Kind}
 use Rattle.files.specs.declared.kind.Part.{Part}
-use Rattle.files.specs.Contents.{Entry, is_written}
-use Rattle.files.specs.Formats.{bytes_of, absent_of, limit_of}
+use Rattle.files.specs.Contents.{Entry}
+use Rattle.files.specs.Formats.{bytes_of}
 use Rattle.files.proofs.Outcomes.{ok_same, passed}
-use Rattle.files.specs.Reading.{then, with_first, is_odd, value_at, read_field, read_fields, size_of, read_record, read_records, part_with, parts_with}
+use Rattle.files.specs.Reading.{then, with_first, is_odd, read_field, read_fields, size_of, read_record, read_records, part_with, parts_with}
 
 -- what was read before, and then what is read next
 abbrev pub prefixed : {X Y : Type 0} → List X → Result (List X × Y) ReadFault → Result (List X × Y) ReadFault

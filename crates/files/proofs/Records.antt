@@ -1,7 +1,7 @@
 -- Records of a file: what is read is what was written.
-use Rattle.std.proofs.Common.{◌≡◌, ℕ, zero, suc, ◌+◌, ◌-◌, ◌*◌, ◌/◌, ◌^◌, ◌<◌, ◌≤◌, Bool, true, false, cond, ◌&&◌, eqb, ltb, leb, List, [], ◌∷◌, ◌++◌, length, get_or, take, drop, Ok, Err, Result, sym, refl, ap, ◌∙◌, subst, append_assoc, add-zero, add_assoc, pow-suc, arith}
+use Rattle.std.proofs.Common.{◌≡◌, ℕ, zero, suc, ◌+◌, ◌-◌, ◌*◌, ◌^◌, ◌<◌, ◌≤◌, Bool, true, false, ◌&&◌, ltb, leb, List, [], ◌∷◌, ◌++◌, length, get_or, drop, Ok, Err, Result, sym, refl, ap, ◌∙◌, subst, append_assoc, add-zero, pow-suc, arith}
 use native.Mathlib.Nat.{pow-le-pow_right}
-use Rattle.std.specs.List.{flat_map, AllByRecursion as All}
+use Rattle.std.specs.List.{flat_map, AllByRecursion}
 use Rattle.std.proofs.lemmas.List.{drop_more, drop-drop, length-drop, length-append, get_or-drop}
 use Rattle.std.proofs.lemmas.Bool.{ltb-true, lt-ltb, leb-true, le-leb, cond-true}
 use Rattle.domain.specs.declared.fault.ReadFault.{ReadFault}
@@ -10,11 +10,11 @@ use Rattle.files.specs.declared.kind.Kind.{Kind}
 use Rattle.files.specs.declared.kind.Kind.TheVariants.{Card, Map}
 use Rattle.files.specs.declared.kind.Part.{Part}
 use Rattle.files.specs.declared.kind.Part.TheVariants.{Action, Goal}
-use Rattle.files.specs.Contents.{Entry, is_written, bit_map, all_field_bytes, mark_bit, record_bytes, InRange, ValidEntry}
+use Rattle.files.specs.Contents.{Entry, is_written, bit_map, all_field_bytes, mark_bit, record_bytes, ValidEntry}
 use Rattle.files.specs.Formats.{most_of, fields_of, is_markable, bit, bit_count}
 use Rattle.files.specs.Numbers.{Bytes}
 use Rattle.files.specs.Reading.{then, with_first, is_odd, read_fields, size_of, as_entry, read_record, read_records}
-use Rattle.files.proofs.Fields.{FieldsRead, fields_read, Narrow, size_written, fields_written, after_bytes, bit_odd}
+use Rattle.files.proofs.Fields.{FieldsRead, fields_read, Narrow, size_written, fields_written, after_bytes}
 use Rattle.files.proofs.Outcomes.{ok_same, ok_or_err, passed, then_ok, first_ok}
 
 pub bit_low : (b : Bool) → bit b ≤ 1
@@ -83,7 +83,7 @@ module _ (bs : List ℕ) (all : Bytes bs) (k : Kind) (p : Part) (size : ℕ) (so
       })
 
   pub record RecordsRead (n at : ℕ) (x : List Entry × ℕ) : Type 0 where
-    pub valid : All (ValidEntry k p size) x.0
+    pub valid : AllByRecursion (ValidEntry k p size) x.0
     pub count : length x.0 ≡ n
     pub bytes : drop at bs ≡ flat_map (record_bytes k p) x.0 ++ drop x.1 bs
 
@@ -140,7 +140,7 @@ module _ (bs : List ℕ) (k : Kind) (p : Part) (size : ℕ) (most : size ≤ mos
       ∙ ap (λ b. Ok (record { values = e.values; marked = b }, at + 1 + length fields)) marked
       ∙ ap (λ n. Ok (e, n)) end
 
-  pub records_written : (r at : ℕ) (es : List Entry) (tail : List ℕ) → All (ValidEntry k p size) es → drop at bs ≡ flat_map (record_bytes k p) es ++ tail
+  pub records_written : (r at : ℕ) (es : List Entry) (tail : List ℕ) → AllByRecursion (ValidEntry k p size) es → drop at bs ≡ flat_map (record_bytes k p) es ++ tail
       → read_records k p size bs (length es) r at ≡ Ok (es, at + length (flat_map (record_bytes k p) es))
   records_written r at [] tail valid b = ap (λ n. Ok ([], n)) (sym (add-zero at))
   records_written r at (e ∷ es) tail valid b =

@@ -1,6 +1,6 @@
 -- Files by what their records stand for: reading and writing are inverse to each other.
 use Rattle.std.proofs.Common.{◌≡◌, ℕ, ◌<◌, ◌≤◌, List, [], ◌∷◌, map, length, Ok, Err, Result, sym, refl, ap, ◌∙◌, subst, arith}
-use Rattle.std.specs.List.{AllByRecursion as All}
+use Rattle.std.specs.List.{AllByRecursion}
 use Rattle.std.proofs.lemmas.List.{length-map}
 use Rattle.domain.specs.declared.fault.ReadFault.{ReadFault}
 use Rattle.files.specs.declared.kind.Kind.{Kind}
@@ -15,11 +15,11 @@ use Rattle.files.proofs.WholeFiles.{file_written}
 
 -- there and back again, of each element
 module _ {X Y : Type 0} (P : X → Type 0) (Q : Y → Type 0) (f : X → Y) (g : Y → X) (each : (x : X) → P x → Q (f x) × (g (f x) ≡ x)) where
-  all_there : (xs : List X) → All P xs → All Q (map f xs)
+  all_there : (xs : List X) → AllByRecursion P xs → AllByRecursion Q (map f xs)
   all_there [] h = tt
   all_there (x ∷ xs) h = ((each x h.0).0, all_there xs h.1)
 
-  all_back : (xs : List X) → All P xs → map g (map f xs) ≡ xs
+  all_back : (xs : List X) → AllByRecursion P xs → map g (map f xs) ≡ xs
   all_back [] h = refl
   all_back (x ∷ xs) h = ap (λ y. y ∷ map g (map f xs)) (each x h.0).1 ∙ ap (λ ys. x ∷ ys) (all_back xs h.1)
 
@@ -39,8 +39,8 @@ module _ {S G : Type 0} (k : Kind) (make_s : Entry → S) (entry_s : S → Entry
     pub goals_low : 1 ≤ length f.goals
     pub goals_high : length f.goals ≤ 32
     pub start_in : f.start < limit_of f.size (start_of k)
-    pub actions_good : All (GoodS f.size) f.actions
-    pub goals_good : All (GoodG f.size) f.goals
+    pub actions_good : AllByRecursion (GoodS f.size) f.actions
+    pub goals_good : AllByRecursion (GoodG f.size) f.goals
 
   -- a typed file as it was made of bare records, and those of a typed one
   abbrev pub typed : RawFile → File S G

@@ -1,5 +1,5 @@
 -- Steps of the loops that write.
-use Rattle.std.proofs.Common.{◌≡◌, ℕ, zero, suc, ◌+◌, ◌-◌, ◌*◌, ◌/◌, ◌%◌, ◌^◌, ◌<◌, ◌≤◌, Bool, true, false, cond, leb, List, [], ◌∷◌, ◌++◌, map, length, get_or, take, drop, set, is_some, Some, None, Ok, Err, sym, refl, ap, ◌∙◌, subst, append_assoc, add-zero, add_assoc, mul_comm, pow-suc, div-one, add-one, arith}
+use Rattle.std.proofs.Common.{◌≡◌, ℕ, zero, suc, ◌+◌, ◌-◌, ◌*◌, ◌/◌, ◌%◌, ◌^◌, ◌<◌, ◌≤◌, Bool, true, false, cond, leb, List, [], ◌∷◌, ◌++◌, map, length, get_or, take, drop, set, is_some, Some, None, Ok, sym, refl, ap, ◌∙◌, subst, append_assoc, add-zero, mul_comm, pow-suc, div-one, add-one, arith}
 use native.Mathlib.Nat.{pow-le-pow_right, div-div-eq-div-mul}
 use Rattle.std.proofs.lemmas.List.{take_more_set, drop-set-lt, drop-drop, drop_more, get_or-drop, length-append, length-drop, length-map, append-nil, append_cancel_right, take-append-drop, take_more, take_all, get_or-map}
 use Rattle.std.proofs.lemmas.Bool.{le-leb, lt-leb, leb-true, leb-false, cond-true, cond-false}

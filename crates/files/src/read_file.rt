@@ -14,7 +14,7 @@ use domain::room::Room;
 
 // What a record stands for, and the byte after it.
 fn read_part<R: Record>(shape: Shape, bytes: &[u8], at: Position) -> Result<(R, usize), ReadFault>
-    ensures { result ≡ part_with made (read_record shape.kind shape.part shape.size bytes.now at.«record» at.byte) }
+    ensures { result ≡ part_with R.made (read_record shape.kind shape.part shape.size bytes.now at.«record» at.byte) }
 {
     let mut values = [0u64; 4];
     let (marked, next) = read_record(shape, bytes, at, &mut values)?;
@@ -33,7 +33,7 @@ fn read_parts<R: Record>(
     requires empty { vec_len room.old ≡ 0 }
     requires wide { count ≤ vec_capacity room.old }
     requires few { from.«record» + count ≤ 1000 }
-    ensures value { parts_with made (read_records shape.kind shape.part shape.size bytes.now count from.«record» from.byte) ≡ joined_to room.new.items result }
+    ensures value { parts_with R.made (read_records shape.kind shape.part shape.size bytes.now count from.«record» from.byte) ≡ joined_to room.new.items result }
     ensures room { vec_capacity room.new ≡ vec_capacity room.old }
 {
     let first = from.record;
@@ -62,7 +62,7 @@ fn read_into<S: Record, G: Record>(
 ) -> Result<Header, ReadFault>
     requires empty { (vec_len actions.old ≡ 0) × (vec_len goals.old ≡ 0) }
     requires wide { (120 ≤ vec_capacity actions.old) × (32 ≤ vec_capacity goals.old) }
-    ensures value { file_with S.Record.made G.Record.made (read_file kind bytes.now) ≡ headed actions.new.items goals.new.items result }
+    ensures value { file_with S.made G.made (read_file kind bytes.now) ≡ headed actions.new.items goals.new.items result }
     ensures room { (vec_capacity actions.new ≡ vec_capacity actions.old) × (vec_capacity goals.new ≡ vec_capacity goals.old) }
 {
     let header = read_header(kind, bytes)?;
@@ -102,7 +102,7 @@ pub fn read_file<S: Record + Drop, G: Record + Drop>(
     bytes: &[u8],
     room: Room<S, G>,
 ) -> Result<File<S, G>, Unread<S, G>>
-    ensures value { outcome result ≡ file_with S.Record.made G.Record.made (read_file kind bytes.now) }
+    ensures value { outcome result ≡ file_with S.made G.made (read_file kind bytes.now) }
     ensures room { IfErr result (λ u. SameRoom room u.room) }
     ensures exact { ReadExactly kind bytes.now }
 {

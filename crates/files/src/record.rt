@@ -10,7 +10,7 @@ pub trait Record: Sized {
     ghost made: { Entry → Self };
 
     fn from_values(values: &[u64], marked: bool) -> Self
-        ensures { result ≡ made (record { values = values.entry.now; marked = marked }) };
+        ensures { result ≡ made (record { values = values.now; marked = marked }) };
 
     // The value of a field, and 0 past the last one.
     fn value(&self, field: usize) -> u64

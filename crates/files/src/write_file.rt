@@ -13,7 +13,7 @@ use domain::fault::WriteFault;
 
 // How much of the room is left after the records of the items, if they fit.
 fn room_after<R: Record>(kind: Kind, part: Part, items: &[R], room: usize) -> Option<usize>
-    ensures { result ≡ room_after (flat_map (record_bytes kind part) (map written items.now)) room }
+    ensures { result ≡ room_after (flat_map (record_bytes kind part) (map R.written items.now)) room }
 {
     let mut left = room;
     for item in items {
@@ -34,8 +34,8 @@ fn write_parts<R: Record>(
     place: &mut [u8],
     from: usize,
 ) -> usize
-    requires { from + length (flat_map (record_bytes kind part) (map written items.now)) ≤ length place.old }
-    ensures { Wrote (flat_map (record_bytes kind part) (map written items.now)) from place.old place.new result }
+    requires { from + length (flat_map (record_bytes kind part) (map R.written items.now)) ≤ length place.old }
+    ensures { Wrote (flat_map (record_bytes kind part) (map R.written items.now)) from place.old place.new result }
 {
     let mut at = from;
     for item in items {
@@ -72,7 +72,7 @@ fn fits<S: Record, G: Record>(
     goals: &[G],
     room: usize,
 ) -> bool
-    ensures { result ≡ nat_le (length (file_bytes kind (raw_of S.Record.written G.Record.written size start actions.now goals.now))) room }
+    ensures { result ≡ nat_le (length (file_bytes kind (raw_of S.written G.written size start actions.now goals.now))) room }
 {
     let header = kind.header_length();
     if room < header {
@@ -93,8 +93,8 @@ pub fn write_file<S: Record, G: Record>(
     goals: &[G],
     place: &mut [u8],
 ) -> Result<usize, WriteFault>
-    ensures value { result ≡ write_outcome (file_bytes kind (raw_of S.Record.written G.Record.written size start actions.now goals.now)) place.old }
-    ensures place { place.new ≡ place_after (file_bytes kind (raw_of S.Record.written G.Record.written size start actions.now goals.now)) place.old }
+    ensures value { result ≡ write_outcome (file_bytes kind (raw_of S.written G.written size start actions.now goals.now)) place.old }
+    ensures place { place.new ≡ place_after (file_bytes kind (raw_of S.written G.written size start actions.now goals.now)) place.old }
 {
     if !fits(kind, size, start, actions, goals, place.len()) {
         return Err(WriteFault::Place);

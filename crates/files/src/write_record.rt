@@ -1,5 +1,5 @@
 // Writing one record.
-ghost use Rattle.std.specs.Prelude.{◌≡◌, ◌+◌, ◌<◌, ◌≤◌, true, false, length};
+ghost use Rattle.std.specs.Prelude.{◌≡◌, ◌+◌, ◌<◌, ◌≤◌, length};
 ghost use Rattle.files.specs.Contents.{is_written, field_bytes, all_field_bytes, bit_map, mark_bit, record_bytes};
 ghost use Rattle.files.specs.Formats.{fields_of, bit};
 ghost use Rattle.files.specs.Writing.{Wrote};
@@ -31,7 +31,7 @@ fn field_bit(field: Field, value: u64) -> u8
 
 // The bit above the fields' bits.
 fn mark_bit<R: Record>(part: Part, item: &R) -> u8
-    ensures { result ≡ mark_bit part (written item.now) }
+    ensures { result ≡ mark_bit part (R.written item.now) }
 {
     if part.is_markable() && item.is_marked() {
         1
@@ -42,7 +42,7 @@ fn mark_bit<R: Record>(part: Part, item: &R) -> u8
 
 // The first byte of a record.
 fn bit_map<R: Record>(kind: Kind, part: Part, item: &R) -> u8
-    ensures { result ≡ bit_map (fields_of kind part) (written item.now).values (mark_bit part (written item.now)) }
+    ensures { result ≡ bit_map (fields_of kind part) (R.written item.now).values (mark_bit part (R.written item.now)) }
 {
     let fields = kind.fields(part);
     let mut map = mark_bit(part, item);
@@ -54,15 +54,15 @@ fn bit_map<R: Record>(kind: Kind, part: Part, item: &R) -> u8
 
 // How many bytes a record takes.
 pub(crate) fn record_length<R: Record>(kind: Kind, part: Part, item: &R) -> usize
-    ensures { result ≡ length (record_bytes kind part (written item.now)) }
+    ensures { result ≡ length (record_bytes kind part (R.written item.now)) }
 {
     1 + fields_size(bit_map(kind, part, item), kind.fields(part))
 }
 
 // The fields from a byte on; the answer is the byte after them.
 fn write_fields<R: Record>(fields: &[Field], item: &R, place: &mut [u8], from: usize) -> usize
-    requires { from + length (all_field_bytes fields.now (written item.now).values) ≤ length place.old }
-    ensures { Wrote (all_field_bytes fields.now (written item.now).values) from place.old place.new result }
+    requires { from + length (all_field_bytes fields.now (R.written item.now).values) ≤ length place.old }
+    ensures { Wrote (all_field_bytes fields.now (R.written item.now).values) from place.old place.new result }
 {
     let mut at = from;
     for (i, field) in fields.iter().enumerate() {
@@ -79,8 +79,8 @@ pub(crate) fn write_record<R: Record>(
     place: &mut [u8],
     at: usize,
 ) -> usize
-    requires { at + length (record_bytes kind part (written item.now)) ≤ length place.old }
-    ensures { Wrote (record_bytes kind part (written item.now)) at place.old place.new result }
+    requires { at + length (record_bytes kind part (R.written item.now)) ≤ length place.old }
+    ensures { Wrote (record_bytes kind part (R.written item.now)) at place.old place.new result }
 {
     place[at] = bit_map(kind, part, item);
     write_fields(kind.fields(part), item, place, at + 1)

@@ -1,4 +1,4 @@
-use Rattle.std.proofs.Common.{◌≡◌, ℕ, ◌^◌, ◌<◌, ◌≤◌, List, length, get_or, drop, sym, ap, ◌∙◌, arith}
+use Rattle.std.proofs.Common.{◌≡◌, ℕ, ◌^◌, ◌<◌, ◌≤◌, List, length, drop, sym, ap, ◌∙◌, arith}
 use Rattle.std.proofs.ByRecursion.{All-drop}
 use Rattle.std.proofs.lemmas.List.{drop_all, length-drop}
 use Rattle.files.specs.Numbers.{Bytes, little}
@@ -13,11 +13,11 @@ six_bytes : (bs : List ℕ) (i v : ℕ) → Bytes bs → length bs ≤ 7 → 0 <
 six_bytes bs i v typed few turn e =
     omega (arith, little_below (drop i bs) 6 (All-drop (λ b. b < 256) i bs typed) (omega (arith, length-drop i bs)))
 
-pub overflow-mul-value : goal.overflow-mul-value
-overflow-mul-value c = omega (arith, six_bytes c.args.bytes.now c.loop-i.i c.loop-i.value (bytes_typed c.args.bytes.now c.type-inv.bytes) c.requires c.loop-i-test.true c.loop-i.invariant)
+pub overflow_mul-value : goal.overflow_mul-value
+overflow_mul-value c = omega (arith, six_bytes c.args.bytes.now c.loop-i.i c.loop-i.value (bytes_typed c.args.bytes.now c.type_inv.bytes) c.requires c.loop-i-test.true c.loop-i.invariant)
 
-pub overflow-add-value : goal.overflow-add-value
-overflow-add-value c = omega (arith, six_bytes c.args.bytes.now c.loop-i.i c.loop-i.value (bytes_typed c.args.bytes.now c.type-inv.bytes) c.requires c.loop-i-test.true c.loop-i.invariant)
+pub overflow_add-value : goal.overflow_add-value
+overflow_add-value c = omega (arith, six_bytes c.args.bytes.now c.loop-i.i c.loop-i.value (bytes_typed c.args.bytes.now c.type_inv.bytes) c.requires c.loop-i-test.true c.loop-i.invariant)
 
 pub loop-i-preserved : goal.loop-i-preserved
 loop-i-preserved c = omega (arith, c.loop-i.invariant, little_front c.args.bytes.now c.loop-i.i c.loop-i-test.true c.loop-i.auto.i)

@@ -1,4 +1,4 @@
-use Rattle.std.proofs.Common.{◌≡◌, ℕ, ◌+◌, ◌/◌, ◌%◌, ◌^◌, ◌<◌, [], ◌∷◌, ◌++◌, length, set, sym, ap, ◌∙◌, subst, add-zero, add_assoc, div-one, arith}
+use Rattle.std.proofs.Common.{◌≡◌, ◌+◌, ◌/◌, ◌%◌, ◌<◌, [], ◌∷◌, ◌++◌, length, set, sym, ap, ◌∙◌, subst, add-zero, add_assoc, div-one, arith}
 use Rattle.files.specs.Numbers.{spelled}
 use Rattle.files.specs.Writing.{Wrote}
 use Rattle.files.proofs.WriteSteps.{wrote_none, wrote_byte, wrote_then, spelled_more, high_next}

@@ -11,15 +11,15 @@ loop-i-init g c =
     let none : vec_items c.args.room.now ≡ [] = nil_from_length _ (omega (arith, c.args.room.now.ok.0, c.requires.empty)) in
     (c.requires.empty, refl, parts_none g.R.Record.made s.kind s.part s.size c.args.bytes.now c.args.count c.args.from.«record» c.args.from.byte (vec_items c.args.room.now) none)
 
-pub returns-in-err-item : goal.returns-in-err-item
-returns-in-err-item g c =
+pub returns-in_err-item : goal.returns-in_err-item
+returns-in_err-item g c =
     let s = c.args.shape in
-    let p = err_from_is_err_and c.from-residual.result c.from-residual.ensures.1 in
-    let refusal = parts_err g.R.Record.made s.kind s.part s.size c.args.bytes.now c.args.count c.args.from.«record» c.loop-i.i c.loop-i.byte (vec_items c.loop-i.room) c.in-err-item.field-0.0 c.loop-i-test.true (sym c.read-part.ensures ∙ c.in-err-item.was) in
+    let p = err_from_is_err_and c.from_residual.result c.from_residual.ensures.1 in
+    let refusal = parts_err g.R.Record.made s.kind s.part s.size c.args.bytes.now c.args.count c.args.from.«record» c.loop-i.i c.loop-i.byte (vec_items c.loop-i.room) c.in_err-item.field-0.0 c.loop-i-test.true (sym c.read_part.ensures ∙ c.in_err-item.was) in
     record { value = rw (p.1, p.2) (c.loop-i.invariant.2 ∙ refusal); room = c.loop-i.invariant.1 }
 
-pub push-reserved-requires : goal.push-reserved-requires
-push-reserved-requires g c = omega (arith, c.loop-i.invariant.0, c.loop-i.invariant.1, c.requires.wide, c.loop-i-test.true)
+pub push_reserved-requires : goal.push_reserved-requires
+push_reserved-requires g c = omega (arith, c.loop-i.invariant.0, c.loop-i.invariant.1, c.requires.wide, c.loop-i-test.true)
 
 pub loop-i-preserved : goal.loop-i-preserved
 loop-i-preserved g c =
@@ -28,13 +28,13 @@ loop-i-preserved g c =
     let bs = c.args.bytes.now in
     let i = c.loop-i.i in
     let first = c.args.from.«record» in
-    let item = c.in-ok-item in
-    let turn = parts_ok make s.kind s.part s.size bs c.args.count first i c.loop-i.byte (vec_items c.loop-i.room) item.item item.next c.loop-i-test.true (sym c.read-part.ensures ∙ item.was) in (
-      omega (arith, c.loop-i.invariant.0, c.push-reserved.ensures.len),
-      c.push-reserved.ensures.capacity ∙ c.loop-i.invariant.1,
+    let item = c.in_ok-item in
+    let turn = parts_ok make s.kind s.part s.size bs c.args.count first i c.loop-i.byte (vec_items c.loop-i.room) item.item item.next c.loop-i-test.true (sym c.read_part.ensures ∙ item.was) in (
+      omega (arith, c.loop-i.invariant.0, c.push_reserved.ensures.len),
+      c.push_reserved.ensures.capacity ∙ c.loop-i.invariant.1,
       c.loop-i.invariant.2
           ∙ turn
-          ∙ ap (λ xs. prefixed xs (parts_with make (read_records s.kind s.part s.size bs (c.args.count - (i + 1)) (first + (i + 1)) item.next))) (sym c.push-reserved.ensures.items),
+          ∙ ap (λ xs. prefixed xs (parts_with make (read_records s.kind s.part s.size bs (c.args.count - (i + 1)) (first + (i + 1)) item.next))) (sym c.push_reserved.ensures.items),
     )
 
 pub returns : goal.returns

@@ -1,4 +1,4 @@
-use Rattle.std.proofs.Common.{◌≡◌, ◌%◌, true, false, cond, eqb, get_or, ap, arith, rules}
+use Rattle.std.proofs.Common.{◌≡◌, ◌%◌, cond, get_or, ap, arith}
 use Rattle.std.proofs.lemmas.Bool.{eq-eqb, ne_eqb}
 use Rattle.files.specs.declared.field.Field.TheVariants.{Set}
 use Rattle.files.specs.Formats.{bytes_of}
@@ -10,8 +10,8 @@ use Rattle.files.proofs.read_record.fields_size.Goals.{then-rest-eq1, else-rest-
 pub loop-field-init : goal.loop-field-init
 loop-field-init c = (omega arith, omega arith)
 
-pub overflow-add-size : goal.overflow-add-size
-overflow-add-size c = omega (arith, bytes_few (get_or c.args.fields.now c.loop-field.field-index Set), c.bytes-size.ensures, c.loop-field.invariant.1)
+pub overflow_add-size : goal.overflow_add-size
+overflow_add-size c = omega (arith, bytes_few (get_or c.args.fields.now c.loop-field.field-index Set), c.bytes-size.ensures, c.loop-field.invariant.1)
 
 pub loop-field-preserved : goal.loop-field-preserved
 loop-field-preserved c =

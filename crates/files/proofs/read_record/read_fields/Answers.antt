@@ -1,4 +1,4 @@
-use Rattle.std.proofs.Common.{◌≡◌, ◌+◌, ◌/◌, ◌<◌, cond, [], ◌∷◌, ◌++◌, length, get_or, take, drop, set, Ok, sym, refl, ap, ◌∙◌, arith}
+use Rattle.std.proofs.Common.{◌≡◌, ◌+◌, ◌/◌, ◌<◌, cond, [], length, get_or, take, drop, Ok, sym, refl, ap, ◌∙◌, arith}
 use Rattle.std.proofs.lemmas.List.{take_more_set}
 use Rattle.std.proofs.lemmas.Result.{err_from_is_err_and}
 use Rattle.files.specs.declared.field.Field.TheVariants.{Set}
@@ -10,26 +10,26 @@ use Rattle.files.proofs.read_record.read_fields.Goals as goal
 pub loop-i-init : goal.loop-i-init
 loop-i-init c = (c.requires.fit, prefixed_none [] _ refl)
 
-pub read-field-requires : goal.read-field-requires
-read-field-requires c t =
+pub read_field-requires : goal.read_field-requires
+read_field-requires c t =
     let f = get_or c.args.fields.now c.loop-i.i Set in
     let odd : cond (is_odd c.loop-i.rest) (bytes_of f) 0 ≡ bytes_of f = ap (λ b. cond b (bytes_of f) 0) t in
     omega (arith, c.loop-i.invariant.0, size_more c.args.fields.now c.loop-i.i c.loop-i.rest c.loop-i-test.true)
 
-pub returns-in-err-value : goal.returns-in-err-value
-returns-in-err-value c =
-    let p = err_from_is_err_and c.from-residual.result c.from-residual.ensures.1 in
+pub returns-in_err-value : goal.returns-in_err-value
+returns-in_err-value c =
+    let p = err_from_is_err_and c.from_residual.result c.from_residual.ensures.1 in
     rw (p.1, p.2)
     (c.loop-i.invariant.1
-    ∙ fields_err c.args.fields.now c.loop-i.i c.args.bytes.now c.args.size c.args.from.«record» c.loop-i.byte c.loop-i.rest (take c.loop-i.i c.loop-i.values) c.in-err-value.field-0.0 c.loop-i-test.true (sym c.read-field.ensures ∙ c.in-err-value.was))
+    ∙ fields_err c.args.fields.now c.loop-i.i c.args.bytes.now c.args.size c.args.from.«record» c.loop-i.byte c.loop-i.rest (take c.loop-i.i c.loop-i.values) c.in_err-value.field-0.0 c.loop-i-test.true (sym c.read_field.ensures ∙ c.in_err-value.was))
 
 pub loop-i-preserved : goal.loop-i-preserved
 loop-i-preserved c =
-    let v = c.in-ok-value in
+    let v = c.in_ok-value in
     let bs = c.args.bytes.now in
     let fs = c.args.fields.now in
     let i = c.loop-i.i in
-    let read = sym c.read-field.ensures ∙ v.was in
+    let read = sym c.read_field.ensures ∙ v.was in
     let room : i < length c.loop-i.values = omega (arith, c.requires.places) in (
       omega (arith, c.loop-i.invariant.0, size_more fs i c.loop-i.rest c.loop-i-test.true, field_next bs c.args.size c.args.from.«record» c.loop-i.byte (get_or fs i Set) (is_odd c.loop-i.rest) (v.value, v.next) read),
       c.loop-i.invariant.1

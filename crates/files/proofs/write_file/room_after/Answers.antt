@@ -1,4 +1,4 @@
-use Rattle.std.proofs.Common.{◌≡◌, ◌+◌, ◌<◌, ◌≤◌, map, length, get_or, take, sym, ap, ◌∙◌, arith}
+use Rattle.std.proofs.Common.{◌≡◌, ◌+◌, ◌<◌, map, length, take, sym, ap, ◌∙◌, arith}
 use Rattle.std.specs.List.{flat_map}
 use Rattle.std.proofs.lemmas.List.{length-append, length-map}
 use Rattle.files.specs.Contents.{record_bytes}
@@ -17,7 +17,7 @@ returns-then-left-length g c =
     let x = c.item-item.result in
     let inside : i < length es = omega (arith, c.loop-item-test.true, length-map c.args.items.now w) in
     room_short (flat_map f es) c.args.room
-    (omega (arith, c.loop-item.invariant, c.if-left-length.true, c.record-length-length.ensures, joined_fits f es i (w x) inside (mapped_at w c.args.items.now i x c.loop-item-test.true c.item-item.is)))
+    (omega (arith, c.loop-item.invariant, c.if-left-length.true, c.record_length-length.ensures, joined_fits f es i (w x) inside (mapped_at w c.args.items.now i x c.loop-item-test.true c.item-item.is)))
 
 pub loop-item-preserved : goal.loop-item-preserved
 loop-item-preserved g c =
@@ -28,7 +28,7 @@ loop-item-preserved g c =
     let x = c.item-item.result in
     let inside : i < length es = omega (arith, c.loop-item-test.true, length-map c.args.items.now w) in
     let step : length (flat_map f (take (i + 1) es)) ≡ length (flat_map f (take i es)) + length (f (w x)) = ap length (joined_next f es i (w x) inside (mapped_at w c.args.items.now i x c.loop-item-test.true c.item-item.is)) ∙ length-append (flat_map f (take i es)) (f (w x)) in
-    omega (arith, c.loop-item.invariant, c.if-left-length.false, c.record-length-length.ensures, step)
+    omega (arith, c.loop-item.invariant, c.if-left-length.false, c.record_length-length.ensures, step)
 
 pub returns : goal.returns
 returns g c =

@@ -1,4 +1,4 @@
-use Rattle.std.proofs.Common.{◌≡◌, ◌+◌, ◌≤◌, ◌++◌, length, get_or, take, drop, sym, ap, ◌∙◌, subst, arith}
+use Rattle.std.proofs.Common.{◌≡◌, ◌+◌, ◌++◌, length, get_or, take, drop, sym, ap, ◌∙◌, subst, arith}
 use Rattle.std.proofs.lemmas.List.{length-append, take_all}
 use Rattle.files.specs.declared.field.Field.TheVariants.{Set}
 use Rattle.files.specs.Contents.{field_bytes, all_field_bytes}
@@ -9,8 +9,8 @@ use Rattle.files.proofs.write_record.write_fields.Goals as goal
 pub loop-i-init : goal.loop-i-init
 loop-i-init g c = wrote_none c.args.from c.args.place.now
 
-pub write-field-at-requires : goal.write-field-at-requires
-write-field-at-requires g c =
+pub write_field-at-requires : goal.write_field-at-requires
+write_field-at-requires g c =
     let fs = c.args.fields.now in
     let vs = (g.R.Record.written c.args.item.now).values in
     let i = c.loop-i.i in
@@ -27,8 +27,8 @@ loop-i-preserved g c =
     let i = c.loop-i.i in
     let before = all_field_bytes (take i fs) vs in
     let bytes : before ++ field_bytes (get_or fs i Set) c.value.result ≡ all_field_bytes (take (i + 1) fs) vs = ap (λ v. before ++ field_bytes (get_or fs i Set) v) c.value.ensures ∙ sym (fields_more fs vs i c.loop-i-test.true) in
-    subst (λ bs. Wrote bs c.args.from c.args.place.now c.write-field-at.new.place c.write-field-at.result) bytes
-    (wrote_then before _ c.args.from c.loop-i.at c.write-field-at.result c.args.place.now c.loop-i.place c.write-field-at.new.place c.loop-i.invariant c.write-field-at.ensures)
+    subst (λ bs. Wrote bs c.args.from c.args.place.now c.write_field-at.new.place c.write_field-at.result) bytes
+    (wrote_then before _ c.args.from c.loop-i.at c.write_field-at.result c.args.place.now c.loop-i.place c.write_field-at.new.place c.loop-i.invariant c.write_field-at.ensures)
 
 pub returns : goal.returns
 returns g c =
