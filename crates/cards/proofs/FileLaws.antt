@@ -1,11 +1,11 @@
 -- A card's file: bytes are read as a card exactly when they are that card's file.
-use Rattle.std.proofs.Common.{◌≡◌, ℕ, ◌<◌, ◌≤◌, min, Bool, false, ◌&&◌, List, [], ◌∷◌, length, get_or, Ok, Err, Result, sym, refl, ap, ◌∙◌, subst, arith}
+use Rattle.std.proofs.Common.{◌≡◌, ℕ, ◌<◌, min, Bool, List, [], ◌∷◌, Ok, Err, Result, refl, ap, ◌∙◌, subst, arith}
 use native.Mathlib.Nat.{min-eq_left}
 use Rattle.std.proofs.ByRecursion.{All-get_or, All-from_get_or}
 use Rattle.domain.specs.declared.fault.ReadFault.{ReadFault}
 use Rattle.files.specs.declared.kind.Kind.TheVariants as kind
 use Rattle.files.specs.declared.kind.Part.TheVariants as part
-use Rattle.files.specs.Contents.{Entry, File, ValidEntry}
+use Rattle.files.specs.Contents.{File, ValidEntry}
 use Rattle.files.specs.Exact as files
 use Rattle.files.specs.Reading.{read_file, file_with}
 use Rattle.files.proofs.Outcomes.{ok_same, ok_or_err}
@@ -16,7 +16,7 @@ use Rattle.cards.specs.CardFiles.{action_entry, entry_action, card_file, as_cont
 use Rattle.fluents.specs.SetRecords.{set_of, set_entry, entry_set}
 use Rattle.cards.specs.Cards.{empty_set, no_action}
 use Rattle.cards.specs.Contents.{Contents, InLimits}
-use Rattle.cards.specs.Limits.{Among, ActionAmong, EveryAction, EveryGoal}
+use Rattle.cards.specs.Limits.{Among, ActionAmong}
 
 -- a record and what it stands for
 action_read : (n : ℕ) (vs : List ℕ) (m : Bool) → ValidEntry kind.Card part.Action n (record { values = vs; marked = m })

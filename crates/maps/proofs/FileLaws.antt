@@ -1,11 +1,11 @@
 -- A field map's file: bytes are read as a map exactly when they are that map's file.
-use Rattle.std.proofs.Common.{◌≡◌, ℕ, ◌<◌, ◌≤◌, min, Bool, false, List, [], ◌∷◌, Ok, Err, Result, sym, refl, ap, ◌∙◌, subst, arith}
+use Rattle.std.proofs.Common.{◌≡◌, ℕ, ◌<◌, ◌≤◌, min, Bool, false, List, [], ◌∷◌, Ok, Err, Result, refl, ap, ◌∙◌, subst, arith}
 use native.Mathlib.Nat.{min-eq_left}
 use Rattle.std.proofs.ByRecursion.{All-get_or, All-from_get_or}
 use Rattle.domain.specs.declared.fault.ReadFault.{ReadFault}
 use Rattle.files.specs.declared.kind.Kind.TheVariants as kind
 use Rattle.files.specs.declared.kind.Part.TheVariants as part
-use Rattle.files.specs.Contents.{Entry, File, ValidEntry}
+use Rattle.files.specs.Contents.{File, ValidEntry}
 use Rattle.files.specs.Exact as files
 use Rattle.files.specs.Reading.{read_file, file_with}
 use Rattle.files.proofs.Outcomes.{ok_same, ok_or_err}

@@ -9,5 +9,5 @@ loop-action-preserved c k d =
     let fluents = c.args.fluents in
     let actions = c.args.actions.now in
     let i = c.loop-action.action-index in
-    let here : (d : Action) → ActionAmong fluents (get_or actions i d) = λ d. subst (ActionAmong fluents) (get_or_default actions i _ d c.loop-action-test.true) (c.if-not-is-action-among.ensures.0 refl) in
+    let here : (d : Action) → ActionAmong fluents (get_or actions i d) = λ d. subst (ActionAmong fluents) (get_or_default actions i _ d c.loop-action-test.true) (c.if-not-is_action_among.ensures.0 refl) in
     λ h. below_more (λ k. (d : Action) → ActionAmong fluents (get_or actions k d)) i (λ k l d. c.loop-action.invariant k d l) here k h d

@@ -9,5 +9,5 @@ loop-goal-preserved c k d =
     let fluents = c.args.fluents in
     let goals = c.args.goals.now in
     let i = c.loop-goal.goal-index in
-    let here : (d : FluentSet) → Among fluents (get_or goals i d) = λ d. subst (Among fluents) (get_or_default goals i _ d c.loop-goal-test.true) (c.if-not-is-among.ensures.0 refl) in
+    let here : (d : FluentSet) → Among fluents (get_or goals i d) = λ d. subst (Among fluents) (get_or_default goals i _ d c.loop-goal-test.true) (c.if-not-is_among.ensures.0 refl) in
     λ h. below_more (λ k. (d : FluentSet) → Among fluents (get_or goals k d)) i (λ k l d. c.loop-goal.invariant k d l) here k h d

@@ -1,4 +1,4 @@
-use Rattle.std.proofs.Common.{◌≡◌, Ok, vec_items, sym, refl, ap, ◌∙◌, arith}
+use Rattle.std.proofs.Common.{◌≡◌, Ok, vec_items, sym, ap, ◌∙◌, arith}
 use Rattle.std.proofs.lemmas.Result.{err_from_is_err_and}
 use Rattle.files.specs.Outcome.{contents_of}
 use Rattle.fluents.specs.declared.FluentSet.{FluentSet}
@@ -8,10 +8,10 @@ use Rattle.cards.specs.Contents.{Contents}
 use Rattle.cards.proofs.FileLaws.{card_limits, card_exactly}
 use Rattle.cards.proofs.card.Card.read.Goals as goal
 
-pub returns-in-err-file : goal.returns-in-err-file
-returns-in-err-file c =
-    let p = err_from_is_err_and c.from-residual.result c.from-residual.ensures.1 in
-    let told = c.in-err-file.ensures in
+pub returns-in_err-file : goal.returns-in_err-file
+returns-in_err-file c =
+    let p = err_from_is_err_and c.from_residual.result c.from_residual.ensures.1 in
+    let told = c.in_err-file.ensures in
     rw (p.1, p.2) (record {
       value = ap as_contents told.value;
       room = told.room;
@@ -19,29 +19,25 @@ returns-in-err-file c =
       same = tt;
     })
 
-pub invariant-of-result : goal.invariant-of-result
-invariant-of-result c =
-    let told = c.in-ok-file.ensures in
-    let file = c.in-ok-file.file in
-    let l = (card_limits c.args.bytes.now told.exact (contents_of file) (sym told.value)).0 in (
-      (l.fluents_low, l.fluents_high),
-      (
-        (omega (arith, file.actions.ok.0, l.actions_low), omega (arith, file.actions.ok.0, l.actions_high)),
-        (
-          (omega (arith, file.goals.ok.0, l.goals_low), omega (arith, file.goals.ok.0, l.goals_high)),
-          (
-            omega (arith, l.start_among, c.from-bits.ensures),
-            (l.actions_among, (l.goals_among, tt)),
-          ),
-        ),
-      ),
-    )
+pub invariant_of-result : goal.invariant_of-result
+invariant_of-result c =
+    let told = c.in_ok-file.ensures in
+    let file = c.in_ok-file.file in
+    let l = (card_limits c.args.bytes.now told.exact (contents_of file) (sym told.value)).0 in
+    record {
+      fluentcount = (l.fluents_low, l.fluents_high);
+      actioncount = (omega (arith, file.actions.ok.0, l.actions_low), omega (arith, file.actions.ok.0, l.actions_high));
+      goalcount = (omega (arith, file.goals.ok.0, l.goals_low), omega (arith, file.goals.ok.0, l.goals_high));
+      startamong = omega (arith, l.start_among, c.from_bits.ensures);
+      actionsamong = l.actions_among;
+      goalsamong = l.goals_among;
+    }
 
 pub returns : goal.returns
 returns c =
-    let told = c.in-ok-file.ensures in
-    let file = c.in-ok-file.file in
+    let told = c.in_ok-file.ensures in
+    let file = c.in_ok-file.file in
     let card : FluentSet → Contents = λ start. record { fluents = file.size; start = start; actions = vec_items file.actions; goals = vec_items file.goals } in
-    let read : Ok (card c.from-bits.result) ≡ read_card c.args.bytes.now = ap (λ bits. Ok (card (set_of bits))) c.from-bits.ensures ∙ ap as_contents told.value in
+    let read : Ok (card c.from_bits.result) ≡ read_card c.args.bytes.now = ap (λ bits. Ok (card (set_of bits))) c.from_bits.ensures ∙ ap as_contents told.value in
     let exact : ReadExactly c.args.bytes.now = card_exactly c.args.bytes.now told.exact in
-    record { value = read; room = tt; exact = exact; same = sym (exact.only (card c.from-bits.result) (sym read)).1 }
+    record { value = read; room = tt; exact = exact; same = sym (exact.only (card c.from_bits.result) (sym read)).1 }

@@ -15,12 +15,12 @@ pub returns : goal.returns
 returns c =
     let card = c.args.self.now in
     let file : ℕ → List Action → List FluentSet → List ℕ = λ start actions goals. file_bytes kind.Card (raw_of action_entry set_entry card.fluents start actions goals) in
-    let same : file c.bits.result c.as-slice.result.now c.as-slice-2.result.now ≡ card_file (contents card) =
-    ap (λ start. file start c.as-slice.result.now c.as-slice-2.result.now) c.bits.ensures
-    ∙ ap (λ actions. file card.start.0 actions c.as-slice-2.result.now) c.as-slice.ensures.value
-    ∙ ap (file card.start.0 (vec_items card.actions)) c.as-slice-2.ensures.value in
+    let same : file c.bits.result c.as_slice.result.now c.as_slice-2.result.now ≡ card_file (contents card) =
+    ap (λ start. file start c.as_slice.result.now c.as_slice-2.result.now) c.bits.ensures
+    ∙ ap (λ actions. file card.start.0 actions c.as_slice-2.result.now) c.as_slice.ensures.value
+    ∙ ap (file card.start.0 (vec_items card.actions)) c.as_slice-2.ensures.value in
     record {
-      value = c.write-file.ensures.value ∙ ap (λ bytes. write_outcome bytes c.args.place.now) same;
-      place = c.write-file.ensures.place ∙ ap (λ bytes. place_after bytes c.args.place.now) same;
+      value = c.write_file.ensures.value ∙ ap (λ bytes. write_outcome bytes c.args.place.now) same;
+      place = c.write_file.ensures.place ∙ ap (λ bytes. place_after bytes c.args.place.now) same;
       again = card_again (contents card) (in_limits card);
     }

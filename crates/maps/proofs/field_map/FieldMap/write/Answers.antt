@@ -14,12 +14,12 @@ pub returns : goal.returns
 returns c =
     let map = c.args.self.now in
     let file : ℕ → List Move → List Place → List ℕ = λ start moves goals. file_bytes kind.Map (raw_of move_entry goal_entry map.places start moves goals) in
-    let same : file c.from.result c.as-slice.result.now c.as-slice-2.result.now ≡ map_file (contents map) =
-    ap (λ start. file start c.as-slice.result.now c.as-slice-2.result.now) c.from.ensures
-    ∙ ap (λ moves. file map.start.0 moves c.as-slice-2.result.now) c.as-slice.ensures.value
-    ∙ ap (file map.start.0 (vec_items map.moves)) c.as-slice-2.ensures.value in
+    let same : file c.from.result c.as_slice.result.now c.as_slice-2.result.now ≡ map_file (contents map) =
+    ap (λ start. file start c.as_slice.result.now c.as_slice-2.result.now) c.from.ensures
+    ∙ ap (λ moves. file map.start.0 moves c.as_slice-2.result.now) c.as_slice.ensures.value
+    ∙ ap (file map.start.0 (vec_items map.moves)) c.as_slice-2.ensures.value in
     record {
-      value = c.write-file.ensures.value ∙ ap (λ bytes. write_outcome bytes c.args.place.now) same;
-      place = c.write-file.ensures.place ∙ ap (λ bytes. place_after bytes c.args.place.now) same;
+      value = c.write_file.ensures.value ∙ ap (λ bytes. write_outcome bytes c.args.place.now) same;
+      place = c.write_file.ensures.place ∙ ap (λ bytes. place_after bytes c.args.place.now) same;
       again = map_again (contents map) (in_limits map);
     }
