@@ -1,5 +1,5 @@
 -- A finished table answers for every list of actions.
-use Rattle.std.proofs.Common.{◌≡◌, ℕ, zero, suc, ◌+◌, ◌-◌, ◌<◌, ◌≤◌, Bool, true, false, List, [], ◌∷◌, length, get_or, take, Some, None, Option, sym, refl, ap, ◌∙◌, subst, ⊎_elim, add-zero, add_assoc, arith}
+use Rattle.std.proofs.Common.{◌≡◌, ℕ, zero, suc, ◌+◌, ◌<◌, ◌≤◌, Bool, true, false, List, [], ◌∷◌, length, take, Some, None, Option, sym, refl, ap, ◌∙◌, subst, ⊎_elim, add-zero, add_assoc, arith}
 use Rattle.std.specs.Option.{option_map}
 use Rattle.std.specs.List.{ContainsAt as Has}
 use Rattle.std.proofs.ByRecursion.{has_append_right}
@@ -7,11 +7,11 @@ use Rattle.std.proofs.lemmas.List.{length-take-le}
 use Rattle.std.proofs.lemmas.Bool.{cases_lt, true≢false}
 use Rattle.domain.specs.Meaning.{Meaning, Limits}
 use Rattle.plans.specs.Plans.{after, RunsAll, cost_of, PlanFor, CompletePlan, Cheapest, LeastCost}
-use Rattle.plans.specs.Reachable.{Reachable, AtMost}
+use Rattle.plans.specs.Reachable.{AtMost}
 use Rattle.table.specs.declared.row.Node.{Node}
 use Rattle.search.specs.Answers.{ShownKind, Shown, Found}
 use Rattle.search.specs.Solved.{Solved, Ends, CheapestEnd, PathTo, Written}
-use Rattle.search.specs.Ways.{KnownAt, Closed}
+use Rattle.search.specs.Ways.{KnownAt}
 use Rattle.search.proofs.Paths.{path_to, states_of, states_length}
 
 module _ (m : Meaning) (limits : Limits m) (nodes : ℕ → Node) (n : ℕ) (solved : Solved m nodes n) where

@@ -1,22 +1,20 @@
 -- From the start to the finished table.
-use Rattle.std.proofs.Common.{◌≡◌, ℕ, ◌+◌, ◌-◌, ◌*◌, ◌<◌, ◌≤◌, true, false, List, [], ◌∷◌, length, get_or, take, sym, refl, ap, ◌∙◌, subst, inl, ⊎_elim, arith}
+use Rattle.std.proofs.Common.{◌≡◌, ℕ, ◌-◌, ◌*◌, ◌<◌, ◌≤◌, true, false, List, length, take, sym, ap, ◌∙◌, subst, inl, ⊎_elim, arith}
 use Rattle.std.proofs.ByRecursion.{All-from_get_or}
 use Rattle.std.proofs.lemmas.List.{length-take-le}
 use Rattle.std.proofs.lemmas.Bool.{cases_Bool, cases_eq, true≢false}
 use Rattle.domain.specs.Meaning.{Meaning}
-use Rattle.heap.specs.Order.{HeapOrder}
 use Rattle.heap.specs.Pushing.{Pushed, TracksPushed}
-use Rattle.heap.specs.Tracking.{Tracked}
 use Rattle.heap.proofs.Orders.{none_ordered}
 use Rattle.table.specs.declared.row.Node.{Node}
 use Rattle.table.specs.declared.row.Row.{Row}
 use Rattle.table.specs.Index.{Indexed, Added}
-use Rattle.table.specs.Rows.{at, node}
+use Rattle.table.specs.Rows.{node}
 use Rattle.search.specs.declared.entry.Entry.{Entry}
 use Rattle.search.specs.Entries.{ordered, order, noted, apart, Kept}
-use Rattle.search.specs.Searching.{Sound, Waits, AllWait, Waiting, Searching, as_settled, Settled, Expanded}
+use Rattle.search.specs.Searching.{Sound, Waits, Waiting, Searching, as_settled, Settled, Expanded}
 use Rattle.search.specs.Solved.{Solved, Exploring}
-use Rattle.search.specs.Ways.{Begins, Way, KnownAt, Closed, OneEach}
+use Rattle.search.specs.Ways.{Begins, Way, KnownAt, Closed}
 use Rattle.search.proofs.Nodes.{closed_over}
 use Rattle.search.proofs.Reaching.{kept_indexed}
 use Rattle.search.proofs.WaitingLists.{entry_of, waiting_pushed}

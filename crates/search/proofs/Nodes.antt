@@ -1,10 +1,10 @@
 -- The nodes of a table stay sound when one more comes, when one gets cheaper, and when one is settled.
-use Rattle.std.proofs.Common.{◌≡◌, ℕ, ◌+◌, ◌-◌, ◌*◌, ◌<◌, ◌≤◌, true, false, ◌⊎◌, sym, refl, ap, ◌∙◌, subst, inl, inr, ⊎_elim, arith}
+use Rattle.std.proofs.Common.{◌≡◌, ℕ, ◌+◌, ◌-◌, ◌*◌, ◌<◌, ◌≤◌, true, false, sym, refl, ap, ◌∙◌, subst, inl, inr, ⊎_elim, arith}
 use Rattle.std.proofs.lemmas.Bool.{cases_Bool, cases_eq, true≢false}
 use Rattle.domain.specs.Meaning.{Meaning}
 use Rattle.table.specs.declared.row.Node.{Node}
 use Rattle.search.specs.Searching.{Sound, Offered, Grew}
-use Rattle.search.specs.Ways.{Begins, Follows, Way, KnownAt, Closed, OneEach}
+use Rattle.search.specs.Ways.{Follows, Way, KnownAt, Closed, OneEach}
 
 -- What carries over to nodes that grew.
 module _ (m : Meaning) (f g : ℕ → Node) (n w n' w' : ℕ) (grew : Grew f n w g n' w') where

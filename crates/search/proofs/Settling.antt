@@ -1,28 +1,28 @@
 -- A cheapest state that waits is settled, and what its actions lead to is offered.
 use Rattle.std.proofs.Common.{◌≡◌, ℕ, ◌+◌, ◌-◌, ◌*◌, ◌<◌, ◌≤◌, true, false, List, ◌∷◌, length, take, None, sym, refl, ap, ◌∙◌, subst, ⊎_elim, arith}
 use Rattle.std.specs.List.Sorted.{IsPermutation}
-use Rattle.std.specs.List.{ContainsAt as Has, AllByRecursion as All}
+use Rattle.std.specs.List.{AllByRecursion}
 use Rattle.std.proofs.ByRecursion.{all-has, all_shuffled}
-use Rattle.std.proofs.lemmas.Bool.{cases_Bool, cases_eq, true≢false}
+use Rattle.std.proofs.lemmas.Bool.{cases_Bool, cases_eq}
 use Rattle.domain.specs.Meaning.{Meaning, Limits}
 use Rattle.heap.specs.Taking.{Taken, TracksTaken}
 use Rattle.plans.specs.Reachable.{MoreThan}
 use Rattle.table.specs.declared.row.Node.{Node}
 use Rattle.table.specs.declared.row.Row.{Row}
-use Rattle.table.specs.Index.{Indexed, Found, Put}
+use Rattle.table.specs.Index.{Found, Put}
 use Rattle.table.specs.Rows.{at, node}
 use Rattle.table.proofs.Chains.{indexed_over}
 use Rattle.search.specs.declared.entry.Entry.{Entry}
 use Rattle.search.specs.Entries.{ordered, order, noted, apart, Kept}
-use Rattle.search.specs.Searching.{Sound, Waits, Waiting, Searching, Offered, Grew, Reached, as_settled, Settled, Expanded}
-use Rattle.search.specs.Ways.{Follows, KnownAt, Closed}
-use Rattle.search.proofs.Nodes.{sound_settled, known_over, closed_over, grew_same, grew_chain}
+use Rattle.search.specs.Searching.{Waits, Waiting, Searching, Offered, Reached, as_settled, Settled, Expanded}
+use Rattle.search.specs.Ways.{KnownAt}
+use Rattle.search.proofs.Nodes.{sound_settled, known_over, grew_same, grew_chain}
 use Rattle.search.proofs.Paths.{path_to, path_on, more_than}
 use Rattle.search.proofs.Reaching.{kept_indexed}
 use Rattle.search.proofs.WaitingLists.{waiting_taken, least_cost}
 
 -- the row of an entry that is taken
-taken_waits : (f : ℕ → Node) (n : ℕ) (x : Entry) (xs ys : List Entry) → All (Waits f n) xs → IsPermutation xs (x ∷ ys) → Waits f n x
+taken_waits : (f : ℕ → Node) (n : ℕ) (x : Entry) (xs ys : List Entry) → AllByRecursion (Waits f n) xs → IsPermutation xs (x ∷ ys) → Waits f n x
 taken_waits f n x xs ys each shuffled = (all_shuffled (Waits f n) xs (x ∷ ys) shuffled each).0
 
 pub taken_row : (rows : List Row) (n : ℕ) (x : Entry) (xs ys : List Entry) → n ≤ length rows → Waiting rows n xs → IsPermutation xs (x ∷ ys) → x.row < length rows

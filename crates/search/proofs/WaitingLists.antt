@@ -2,10 +2,9 @@
 use Rattle.std.proofs.Common.{◌≡◌, ℕ, zero, suc, ◌+◌, ◌<◌, ◌≤◌, Bool, true, false, cond, eqb, ltb, ◌⊎◌, List, [], ◌∷◌, length, get_or, set, Ordering, Less, Equal, Greater, sym, refl, ap, ◌∙◌, subst, inl, inr, ⊎_elim, arith}
 use Rattle.std.specs.Ordering.{is_lt, is_gt, ordering_then}
 use Rattle.std.specs.List.Sorted.{IsPermutation}
-use Rattle.std.specs.List.{ContainsAt as Has, AllByRecursion as All}
-use Rattle.std.proofs.ByRecursion.{All-weaker, All-get_or, All-from_get_or, all-has, has_get_or, has_append_right, all_shuffled, has_shuffled}
+use Rattle.std.specs.List.{ContainsAt as Has, AllByRecursion}
+use Rattle.std.proofs.ByRecursion.{All-weaker, All-get_or, All-from_get_or, has_append_right, all_shuffled, has_shuffled}
 use Rattle.std.proofs.lemmas.List.{length-set, get_or-set_same, get_or-set_other}
-use Rattle.std.proofs.lemmas.List.Sorted.{IsPermutation-sym}
 use Rattle.std.proofs.lemmas.Bool.{cases_eq, lt-ltb, ltb-false, true≢false}
 use Rattle.heap.specs.Order.{HeapOrder, Least}
 use Rattle.heap.specs.Tracking.{Apart, Noted, NotedBut, Tracked}
@@ -15,7 +14,7 @@ use Rattle.table.specs.declared.row.Row.{Row}
 use Rattle.table.specs.Index.{Put, Added}
 use Rattle.table.specs.Rows.{at, node}
 use Rattle.search.specs.declared.entry.Entry.{Entry}
-use Rattle.search.specs.Entries.{order, noted, apart, Kept}
+use Rattle.search.specs.Entries.{ordered, order, noted, apart, Kept}
 use Rattle.search.specs.Searching.{Waits, AllWait, Waiting}
 
 -- the entry of a node in a row
@@ -47,10 +46,10 @@ nodes_same : (rows rows' : List Row) → Kept rows rows' → node rows' ≡ node
 nodes_same rows rows' kept = λ i k. kept.nodes k i
 
 -- the rows after a heap function noted the places anew
-module _ (rows rows' : List Row) (n : ℕ) (xs ys : List Entry) (kept : Kept rows rows') (shuffled : IsPermutation xs ys) (each : All (Waits (node rows) n) xs) (all : AllWait (node rows) n xs) (tracked : Tracked noted apart rows' ys) (ordered : HeapOrder order ys) where
+module _ (rows rows' : List Row) (n : ℕ) (xs ys : List Entry) (kept : Kept rows rows') (shuffled : IsPermutation xs ys) (each : AllByRecursion (Waits (node rows) n) xs) (all : AllWait (node rows) n xs) (tracked : Tracked noted apart rows' ys) (ordered : HeapOrder order ys) where
   waiting_noted : Waiting rows' n ys
   waiting_noted = record {
-    each = subst (λ f. All (Waits f n) ys) (sym (nodes_same rows rows' kept)) (all_shuffled (Waits (node rows) n) xs ys shuffled each);
+    each = subst (λ f. AllByRecursion (Waits f n) ys) (sym (nodes_same rows rows' kept)) (all_shuffled (Waits (node rows) n) xs ys shuffled each);
     all = subst (λ f. AllWait f n ys) (sym (nodes_same rows rows' kept)) (all_wait_shuffled (node rows) n xs ys shuffled all);
     tracked = tracked;
     ordered = ordered;
@@ -58,7 +57,7 @@ module _ (rows rows' : List Row) (n : ℕ) (xs ys : List Entry) (kept : Kept row
 
 -- One row more, which waits.
 module _ (rows rows' rows'' : List Row) (n : ℕ) (v : Node) (xs ys : List Entry) (added : Added rows n v rows') (unsettled : v.settled ≡ false) (kept : Kept rows' rows'') (waiting : Waiting rows n xs) where
-  each_pushed : All (Waits (node rows') (n + 1)) (entry_of v n ∷ xs)
+  each_pushed : AllByRecursion (Waits (node rows') (n + 1)) (entry_of v n ∷ xs)
   each_pushed =
       (waits_own (node rows') (n + 1) n v (omega arith) added.here unsettled, All-weaker (Waits (node rows) n) (Waits (node rows') (n + 1)) (λ x w. waits_over (node rows) (node rows') n (n + 1) (omega arith) x (added.others x.row (omega (arith, w.row))) w) xs waiting.each)
 
@@ -134,7 +133,7 @@ module _ (rows rows' rows'' : List Row) (n i : ℕ) (v : Node) (xs ys : List Ent
   entry_here : (d : Entry) → get_or (set xs p (entry_of v i)) p d ≡ entry_of v i
   entry_here d = get_or-set_same xs p (entry_of v i) d within
 
-  each_lowered : All (Waits (node rows') n) (set xs p (entry_of v i))
+  each_lowered : AllByRecursion (Waits (node rows') n) (set xs p (entry_of v i))
   each_lowered = All-from_get_or (Waits (node rows') n) (set xs p (entry_of v i)) no_entry (λ k h. ⊎_elim
       (λ e. subst (Waits (node rows') n) (sym (ap (λ j. get_or (set xs p (entry_of v i)) j no_entry) e ∙ entry_here no_entry)) (waits_own (node rows') n i v low here unsettled))
       (λ u.
@@ -178,7 +177,7 @@ module _ (rows rows' rows'' : List Row) (n i : ℕ) (v : Node) (xs ys : List Ent
 
 -- An entry is taken and its row is settled.
 module _ (rows rows' rows'' : List Row) (n : ℕ) (x : Entry) (v : Node) (xs ys : List Entry) (kept : Kept rows rows') (put : Put rows' x.row v rows'') (settled : v.settled ≡ true) (fits : n ≤ length rows) (shuffled : IsPermutation xs (x ∷ ys)) (waiting : Waiting rows n xs) where
-  each_both : All (Waits (node rows) n) (x ∷ ys)
+  each_both : AllByRecursion (Waits (node rows) n) (x ∷ ys)
   each_both = all_shuffled (Waits (node rows) n) xs (x ∷ ys) shuffled waiting.each
 
   apart_both : Apart apart (x ∷ ys)
@@ -187,7 +186,7 @@ module _ (rows rows' rows'' : List Row) (n : ℕ) (x : Entry) (v : Node) (xs ys 
   node_away : (k : ℕ) → (k ≡ x.row → ⊥) → node rows'' k ≡ node rows k
   node_away k u = ap (λ r. r.node) (put.others k u) ∙ kept.nodes k
 
-  each_left : All (Waits (node rows'') n) ys
+  each_left : AllByRecursion (Waits (node rows'') n) ys
   each_left = All-from_get_or (Waits (node rows'') n) ys no_entry (λ k h.
       let y = get_or ys k no_entry in
       waits_over (node rows) (node rows'') n n (omega arith) y (node_away y.row (apart_both (suc k) 0 no_entry (omega arith) (omega arith) (omega arith))) (All-get_or (Waits (node rows) n) ys k no_entry h each_both.1))
@@ -228,5 +227,5 @@ not_greater false b o h = absurd (true≢false (sym h))
 pub least_cost : (x : Entry) (xs : List Entry) → Least order x xs → (k : ℕ) (d : Entry) → k < length xs → x.cost ≤ (get_or xs k d).cost
 least_cost x xs least k d h = ltb-false _ _ (not_less (ltb (get_or xs k d).cost x.cost) (eqb (get_or xs k d).cost x.cost) _ (least k d h))
 
-pub cheaper_low : (x y : Entry) → x.cost < y.cost → is_gt (order.cmp x y) ≡ false
+pub cheaper_low : (x y : Entry) → x.cost < y.cost → is_gt (ordered x y) ≡ false
 cheaper_low x y h = not_greater (ltb x.cost y.cost) (eqb x.cost y.cost) _ (lt-ltb _ _ h)

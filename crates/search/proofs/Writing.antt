@@ -1,16 +1,16 @@
 -- A plan is written from its last action back: what stands in the place leads from the row that was come to on to the last one.
-use Rattle.std.proofs.Common.{◌≡◌, ℕ, zero, suc, ◌+◌, ◌-◌, ◌<◌, ◌≤◌, List, [], ◌∷◌, ◌++◌, length, take, drop, set, sym, refl, ap, ◌∙◌, subst, ⊎_elim, add_assoc, arith}
+use Rattle.std.proofs.Common.{◌≡◌, ℕ, zero, suc, ◌+◌, ◌<◌, ◌≤◌, List, [], ◌∷◌, ◌++◌, length, take, drop, set, sym, refl, ap, ◌∙◌, subst, ⊎_elim, arith}
 use Rattle.std.proofs.lemmas.List.{length-set, drop-set, take_at, drop_at}
 use Rattle.domain.specs.Meaning.{Meaning}
 use Rattle.plans.specs.Plans.{after, RunsAll, cost_of}
 use Rattle.table.specs.declared.row.Node.{Node}
 use Rattle.search.specs.Answers.{RepeatsNone}
 use Rattle.search.specs.Solved.{Solved, PathTo, Written}
-use Rattle.search.specs.Ways.{Begins, Follows, Way}
+use Rattle.search.specs.Ways.{Begins, Follows}
 
 module _ (m : Meaning) (nodes : ℕ → Node) (n last : ℕ) where
   -- the last actions of the way, from row i on, of which k actions are left to write
-  pub record Written-from (before now : List ℕ) (len i k : ℕ) : Type 0 where
+  pub record WrittenFrom (before now : List ℕ) (len i k : ℕ) : Type 0 where
     pub row : i < n
     pub steps : (nodes i).steps ≡ k
     pub long : length now ≡ length before
@@ -24,7 +24,7 @@ module _ (m : Meaning) (nodes : ℕ → Node) (n last : ℕ) where
     pub passes : (j : ℕ) → j ≤ length tail → (r : ℕ) × ((r < n) × (((nodes r).steps ≡ k + j) × (after m (nodes i).state (take j tail) ≡ (nodes r).state)))
 
   -- nothing is written yet
-  pub writing_begins : (before : List ℕ) (len : ℕ) → last < n → len ≡ (nodes last).steps → Written-from before before len last len
+  pub writing_begins : (before : List ℕ) (len : ℕ) → last < n → len ≡ (nodes last).steps → WrittenFrom before before len last len
   writing_begins before len low e = record {
     row = low;
     steps = sym e;
@@ -43,12 +43,12 @@ module _ (m : Meaning) (nodes : ℕ → Node) (n last : ℕ) where
     follows : (i k : ℕ) → i < n → (nodes i).steps ≡ k + 1 → Follows m nodes n (nodes i)
     follows i k h e = ⊎_elim (λ b. absurd (omega (arith, b.steps))) (λ f. f) (solved.ways i h)
 
-    module _ (before now : List ℕ) (len i k : ℕ) (so : Written-from before now len i (k + 1)) (fits : k < length now) where
+    module _ (before now : List ℕ) (len i k : ℕ) (so : WrittenFrom before now len i (k + 1)) (fits : k < length now) where
       f : Follows m nodes n (nodes i)
       f = follows i k so.row so.steps
 
       -- the row before it, and the action that leads on from there
-      pub writing_on : Written-from before (set now k (nodes i).action) len (nodes i).from k
+      pub writing_on : WrittenFrom before (set now k (nodes i).action) len (nodes i).from k
       writing_on = record {
         row = f.from;
         steps = omega (arith, f.steps, so.steps);
@@ -69,7 +69,7 @@ module _ (m : Meaning) (nodes : ℕ → Node) (n last : ℕ) where
               (r.0, (r.1.0, (omega (arith, r.1.1.0), ap (λ s. after m s (take j so.tail)) f.next ∙ r.1.1.1)))
 
     -- all is written
-    pub writing_ends : (before now : List ℕ) (len i : ℕ) → len ≡ (nodes last).steps → Written-from before now len i 0 → Written m (nodes last) before now len
+    pub writing_ends : (before now : List ℕ) (len i : ℕ) → len ≡ (nodes last).steps → WrittenFrom before now len i 0 → Written m (nodes last) before now len
     writing_ends before now len i e so =
         let start : Begins m (nodes i) = ⊎_elim (λ b. b) (λ f. absurd (omega (arith, f.steps, so.steps))) (solved.ways i so.row) in
         let size : length so.tail ≡ len = omega (arith, so.size) in

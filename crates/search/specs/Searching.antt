@@ -1,6 +1,6 @@
 -- What holds while a search goes on: n rows are known, w of them wait, and the others are settled.
 use Rattle.std.specs.Prelude.{◌≡◌, ℕ, ◌+◌, ◌-◌, ◌*◌, ◌<◌, ◌≤◌, true, false, List, length, take, ◌≢◌}
-use Rattle.std.specs.List.{ContainsAt as Has, AllByRecursion as All}
+use Rattle.std.specs.List.{ContainsAt as Has, AllByRecursion}
 use Rattle.domain.specs.Meaning.{Meaning}
 use Rattle.heap.specs.Order.{HeapOrder}
 use Rattle.heap.specs.Tracking.{Tracked}
@@ -38,7 +38,7 @@ AllWait nodes n entries = (i : ℕ) → i < n → (nodes i).settled ≡ false �
 
 -- The waiting list: the entries of the rows that wait, in heap order, and each row notes the place of its own.
 pub record Waiting (rows : List Row) (n : ℕ) (entries : List Entry) : Type 0 where
-  pub each : All (Waits (node rows) n) entries
+  pub each : AllByRecursion (Waits (node rows) n) entries
   pub all : AllWait (node rows) n entries
   pub tracked : Tracked noted apart rows entries
   pub ordered : HeapOrder order entries

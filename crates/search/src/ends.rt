@@ -1,5 +1,5 @@
 // The cheapest row in whose state a plan for a goal ends.
-ghost use Rattle.std.specs.Prelude.{◌≡◌, ◌<◌, ◌≤◌, length, IfSome, Decides};
+ghost use Rattle.std.specs.Prelude.{◌<◌, ◌≤◌, length, IfSome, Decides};
 ghost use Rattle.table.specs.Rows.{node};
 ghost use Rattle.search.specs.Solved.{Ends, CheapestEnd};
 
@@ -8,7 +8,7 @@ use table::row::Row;
 
 // Whether a plan for the goal can end in the state; a whole one only in a complete state.
 fn ends<D: Domain>(domain: &D, goal: u8, whole: bool, state: u64) -> bool
-    ensures { Decides result (Ends (meaning domain.now) goal whole state) }
+    ensures { Decides result (Ends (D.meaning domain.now) goal whole state) }
 {
     domain.meets(state, goal) && (!whole || domain.complete(state))
 }
@@ -33,7 +33,7 @@ pub(crate) fn cheapest_end<D: Domain>(
     whole: bool,
 ) -> Option<usize>
     requires { known ≤ length rows.now }
-    ensures { CheapestEnd (meaning domain.now) goal whole (node rows.now) known result }
+    ensures { CheapestEnd (D.meaning domain.now) goal whole (node rows.now) known result }
 {
     let mut best = None;
     for i in 0..known {

@@ -1,5 +1,5 @@
 // All states that can be reached, each with a cheapest way to it.
-ghost use Rattle.std.specs.Prelude.{◌≡◌, ◌≤◌, length, MatchOption};
+ghost use Rattle.std.specs.Prelude.{◌≤◌, length, MatchOption};
 ghost use Rattle.plans.specs.Reachable.{MoreThan};
 ghost use Rattle.table.specs.Rows.{node};
 ghost use Rattle.search.specs.Solved.{Solved, Exploring};
@@ -15,7 +15,7 @@ use table::row::{Node, Row};
 // The start alone, which waits.
 fn begin<D: Domain>(domain: &D, rows: &mut [Row], list: &mut [Entry]) -> Progress
     requires { (1 ≤ length rows.old) × (length rows.old ≤ 4096) × (length rows.old ≤ length list.old) }
-    ensures { Exploring (meaning domain.now) rows.new result.known list.new result.waiting }
+    ensures { Exploring (D.meaning domain.now) rows.new result.known list.new result.waiting }
 {
     clear(rows);
     let start = Node {
@@ -42,7 +42,7 @@ fn begin<D: Domain>(domain: &D, rows: &mut [Row], list: &mut [Entry]) -> Progres
 // How many states can be reached; none where they are more than the rows.
 pub(crate) fn explore<D: Domain>(domain: &D, rows: &mut [Row], list: &mut [Entry]) -> Option<usize>
     requires { (1 ≤ length rows.old) × (length rows.old ≤ 4096) × (length rows.old ≤ length list.old) }
-    ensures { MatchOption result (MoreThan (meaning domain.now) (length rows.old)) (λ n. (n ≤ length rows.old) × Solved (meaning domain.now) (node rows.new) n) }
+    ensures { MatchOption result (MoreThan (D.meaning domain.now) (length rows.old)) (λ n. (n ≤ length rows.old) × Solved (D.meaning domain.now) (node rows.new) n) }
 {
     let mut progress = begin(domain, rows, list);
     while let Some((row, taken)) = take_next(rows, list, progress) {

@@ -1,7 +1,6 @@
 // The pair of least costs, and a cheapest plan.
-ghost use Rattle.std.specs.Prelude.{◌≡◌, ℕ, ◌<◌, ◌≤◌, length, IfSome, Decides};
+ghost use Rattle.std.specs.Prelude.{◌≡◌, ◌<◌, ◌≤◌, length, IfSome, Decides};
 ghost use Rattle.std.specs.Option.{option_map};
-ghost use Rattle.domain.specs.Meaning.{Meaning};
 ghost use Rattle.table.specs.Rows.{node};
 ghost use Rattle.search.specs.Answers.{Suited, Found, Answered, TablesStay};
 ghost use Rattle.search.specs.Solved.{Solved};
@@ -40,8 +39,8 @@ fn answer<D: Domain>(
     goal: u8,
     plan: &mut [u8],
 ) -> ((Option<u32>, Option<u32>), usize)
-    requires { Solved (meaning domain.now) (node rows.now) known × ((known ≤ length rows.now) × (known ≤ length plan.old)) }
-    ensures { Found (meaning domain.now) goal known result.0.0 result.0.1 plan.old plan.new result.1 }
+    requires { Solved (D.meaning domain.now) (node rows.now) known × ((known ≤ length rows.now) × (known ≤ length plan.old)) }
+    ensures { Found (D.meaning domain.now) goal known result.0.0 result.0.1 plan.old plan.new result.1 }
 {
     let without = cheapest_end(domain, rows, known, goal, false);
     let with = cheapest_end(domain, rows, known, goal, true);
@@ -63,7 +62,7 @@ pub fn least_costs<D: Domain>(
     waiting: &mut [Entry],
     plan: &mut [u8],
 ) -> Result<((Option<u32>, Option<u32>), usize), SearchFault>
-    ensures answered { Answered (meaning domain.now) goal (record { rows = length table.old; waiting = length waiting.old; places = length plan.old }) plan.old plan.new result }
+    ensures answered { Answered (D.meaning domain.now) goal (record { rows = length table.old; waiting = length waiting.old; places = length plan.old }) plan.old plan.new result }
     ensures tables { TablesStay result (table.new ≡ table.old) }
     ensures waiting { TablesStay result (waiting.new ≡ waiting.old) }
 {

@@ -44,7 +44,7 @@ fn offer<D: Domain>(
     action: u8,
 ) -> bool
     requires { (progress.old.known ≤ length rows.old) × (here.cost ≤ 245760000) × (here.steps < 4096) }
-    ensures { (before : List Row) (n w : ℕ) → row < n → (node before row).settled ≡ true → here ≡ node before row → Expanded (meaning domain.now) before n w row action rows.old progress.old.known list.old progress.old.waiting → MatchBool result (Expanded (meaning domain.now) before n w row (action + 1) rows.new progress.new.known list.new progress.new.waiting) (MoreThan (meaning domain.now) (length before)) }
+    ensures { (before : List Row) (n w : ℕ) → row < n → (node before row).settled ≡ true → here ≡ node before row → Expanded (D.meaning domain.now) before n w row action rows.old progress.old.known list.old progress.old.waiting → MatchBool result (Expanded (D.meaning domain.now) before n w row (action + 1) rows.new progress.new.known list.new progress.new.waiting) (MoreThan (D.meaning domain.now) (length before)) }
 {
     let state = domain.next(here.state, action);
     if state == here.state {
@@ -69,8 +69,8 @@ pub(crate) fn expand<D: Domain>(
     progress: &mut Progress,
     row: usize,
 ) -> bool
-    requires { (row < progress.old.known) × ((node rows.old row).settled ≡ true) × Searching (meaning domain.now) rows.old progress.old.known list.old progress.old.waiting (node rows.old row).cost }
-    ensures { MatchBool result (Expanded (meaning domain.now) rows.old progress.old.known progress.old.waiting row (meaning domain.now).actions rows.new progress.new.known list.new progress.new.waiting) (MoreThan (meaning domain.now) (length rows.old)) }
+    requires { (row < progress.old.known) × ((node rows.old row).settled ≡ true) × Searching (D.meaning domain.now) rows.old progress.old.known list.old progress.old.waiting (node rows.old row).cost }
+    ensures { MatchBool result (Expanded (D.meaning domain.now) rows.old progress.old.known progress.old.waiting row (D.meaning domain.now).actions rows.new progress.new.known list.new progress.new.waiting) (MoreThan (D.meaning domain.now) (length rows.old)) }
 {
     let here = rows[row].node;
     for action in 0..domain.action_count() {

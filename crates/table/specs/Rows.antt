@@ -10,7 +10,7 @@ blank_row = record {
   link = record { head = None; next = None };
 }
 
--- the row of a number, and a blankRow one past the end
+-- the row of a number, and a blank one past the end
 abbrev pub at : List Row → ℕ → Row
 at rows i = slice_index_or rows i blank_row
 

@@ -1,5 +1,5 @@
 // Finding rows by their states.
-ghost use Rattle.std.specs.Prelude.{◌≡◌, ℕ, ◌+◌, ◌<◌, ltb, length, IfSome, if◌then◌else◌, Some, None, MatchBool, MatchOption, nat_lt};
+ghost use Rattle.std.specs.Prelude.{◌≡◌, ℕ, ◌+◌, ◌<◌, length, IfSome, if◌then◌else◌, Some, None, MatchBool, MatchOption, nat_lt};
 ghost use Rattle.table.specs.Index.{chain_of, Indexed, Found, Put, Linked, Added};
 ghost use Rattle.table.specs.Rows.{blank_row, at};
 
@@ -72,7 +72,7 @@ fn link(rows: &mut [Row], i: usize)
 
 // One row more, of a state that none of the first len has; the answer is how many there are then, if there is a place for it.
 pub fn add(rows: &mut [Row], len: usize, node: Node) -> Option<usize>
-    ensures value { result ≡ (if ltb len (length rows.old) then Some (len + 1) else None) }
+    ensures value { result ≡ (if nat_lt len (length rows.old) then Some (len + 1) else None) }
     ensures rows { MatchOption result (rows.new ≡ rows.old) (λ n. Added rows.old len node rows.new) }
 {
     if !put(rows, len, node) {

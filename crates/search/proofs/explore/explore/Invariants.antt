@@ -1,4 +1,4 @@
-use Rattle.std.proofs.Common.{◌≡◌, ◌-◌, length}
+use Rattle.std.proofs.Common.{◌-◌, length}
 use Rattle.search.specs.Solved.{Exploring}
 use Rattle.search.proofs.explore.explore.Given as goal
 

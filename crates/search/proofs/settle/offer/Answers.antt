@@ -1,4 +1,4 @@
-use Rattle.std.proofs.Common.{◌≡◌, ◌+◌, false, sym, refl, ap, ◌∙◌, subst}
+use Rattle.std.proofs.Common.{◌≡◌, ◌+◌, false, sym, refl, ap, ◌∙◌}
 use Rattle.table.specs.declared.row.Node.{Node}
 use Rattle.table.specs.Rows.{node}
 use Rattle.search.proofs.Reaching.{when_both}

@@ -6,8 +6,8 @@ use Rattle.table.proofs.index.find.Goals as goal
 pub loop-seek-init : goal.loop-seek-init
 loop-seek-init c =
     let rows = c.args.rows.now in
-    let low = subst (λ b. b < length rows) c.chain-of.ensures.0 c.chain-of.ensures.1 in
-    (omega arith, omega arith, seek_begins rows c.args.len c.args.state _ _ c.min-bound.ensures low (ap (λ b. (at rows b).link.head) c.chain-of.ensures.0))
+    let low = subst (λ b. b < length rows) c.chain_of.ensures.value c.chain_of.ensures.upper_bound in
+    (omega arith, omega arith, seek_begins rows c.args.len c.args.state _ _ c.min-bound.ensures low (ap (λ b. (at rows b).link.head) c.chain_of.ensures.value))
 
 pub loop-seek-preserved : goal.loop-seek-preserved
 loop-seek-preserved c =
@@ -18,4 +18,4 @@ loop-seek-preserved c =
 pub returns : goal.returns
 returns c =
     let rows = c.args.rows.now in
-    record { row = tt; found = seek_ends rows c.args.len c.args.state c.loop-seek.bound (subst (λ o. Seeking rows c.args.len c.args.state c.loop-seek.bound o) c.in-default.is c.loop-seek.invariant.2) }
+    record { row = tt; found = seek_ends rows c.args.len c.args.state c.loop-seek.bound (subst (λ o. Seeking rows c.args.len c.args.state c.loop-seek.bound o) c.in_default.is c.loop-seek.invariant.2) }
