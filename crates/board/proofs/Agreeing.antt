@@ -1,9 +1,8 @@
 -- The rows of a board agree with themselves, at the beginning and after a store.
-use Rattle.std.proofs.Common.{◌≡◌, ℕ, ◌<◌, true, List, length, get_or, set, replicate, refl, ◌∙◌, arith, length-set}
+use Rattle.std.proofs.Common.{◌≡◌, ℕ, ◌<◌, true, List, length, set, replicate, arith, length-set}
 use lib.ListN.{length-replicate}
 use Rattle.std.proofs.lemmas.List.Elements.{AllWithin-set}
 use Rattle.std.proofs.lemmas.List.{get_or-replicate}
-use Rattle.board.specs.declared.board.Board.{Board}
 use Rattle.board.specs.declared.row.BoardRow.{BoardRow}
 use Rattle.board.specs.Rows.{AllAgree, agrees}
 
