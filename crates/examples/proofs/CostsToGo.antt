@@ -1,8 +1,8 @@
 -- Least costs by a table of costs to go: one test of the table, which antt computes, bounds every list of actions.
-use Rattle.std.proofs.Common.{◌≡◌, ℕ, zero, suc, ◌+◌, ◌<◌, ◌≤◌, min, Bool, true, false, cond, not, ◌&&◌, ◌||◌, eqb, ltb, leb, List, [], ◌∷◌, length, get_or, Some, None, Option, sym, refl, ap, ◌∙◌, subst, ⊎_elim, arith}
+use Rattle.std.proofs.Common.{◌≡◌, ℕ, zero, suc, ◌+◌, ◌<◌, min, Bool, true, false, cond, not, ◌&&◌, ◌||◌, eqb, ltb, leb, List, [], ◌∷◌, length, get_or, Some, None, Option, sym, ◌∙◌, subst, ⊎_elim, arith}
 use Rattle.std.proofs.lemmas.Bool.{cases_lt, cases_eq, and_parts, or_cases, not_from_true, leb-true, le-leb, ltb-true, eqb-true, true≢false}
 use Rattle.domain.specs.Meaning.{Meaning, Limits}
-use Rattle.plans.specs.Plans.{after, RunsAll, cost_of, Cheapest, LeastCost}
+use Rattle.plans.specs.Plans.{after, RunsAll, cost_of, LeastCost}
 
 -- a test that holds of every number below n
 abbrev all_below : ℕ → (ℕ → Bool) → Bool

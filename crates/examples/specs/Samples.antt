@@ -1,5 +1,5 @@
 -- What the sample files hold.
-use Rattle.std.specs.Prelude.{ℕ, ◌+◌, ◌^◌, Bool, true, false, List, [], ◌∷◌}
+use Rattle.std.specs.Prelude.{ℕ, ◌+◌, ◌^◌, Bool, false, List, [], ◌∷◌}
 use Rattle.cards.specs.declared.action.Action.{Action}
 use Rattle.cards.specs.Contents as card
 use Rattle.fluents.specs.declared.FluentSet.{FluentSet}

@@ -1,6 +1,6 @@
 -- The worked examples: what the definitions say of the goals of the sample domains, under some logs.
 use Rattle.std.specs.Prelude.{◌≡◌, ℕ, true, false, List, [], ◌∷◌, Some, None, Ok, Option}
-use Rattle.std.specs.List.{AllByRecursion as All}
+use Rattle.std.specs.List.{AllByRecursion}
 use Rattle.domain.specs.Meaning.{Meaning}
 use Rattle.cards.specs.CardFiles.{read_card}
 use Rattle.cards.specs.Cards as card
@@ -60,8 +60,8 @@ slews_lines =
 -- the whole list, of the domains that are read from three files
 pub record WorkedExamples (card_file marked_file map_file : List ℕ) : Type 0 where
   pub card_read : read_card card_file ≡ Ok (calibration false)
-  pub card_holds : All (Holds (card.meaning_of (calibration false))) calibration_lines
+  pub card_holds : AllByRecursion (Holds (card.meaning_of (calibration false))) calibration_lines
   pub marked_read : read_card marked_file ≡ Ok (calibration true)
-  pub marked_holds : All (Holds (card.meaning_of (calibration true))) marked_lines
+  pub marked_holds : AllByRecursion (Holds (card.meaning_of (calibration true))) marked_lines
   pub map_read : read_map map_file ≡ Ok slews
-  pub map_holds : All (Holds (map.meaning_of slews)) slews_lines
+  pub map_holds : AllByRecursion (Holds (map.meaning_of slews)) slews_lines

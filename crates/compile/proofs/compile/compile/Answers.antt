@@ -6,10 +6,10 @@ use Rattle.compile.proofs.compile.compile.Goals as goal
 pub returns : goal.returns
 returns c =
     let card = c.args.card.now in
-    let told = c.compile-in.ensures in
+    let told = c.compile_in.ensures in
     record {
       value = told.value;
       room = told.room;
-      stands = handed_back (contents card) c.args.log.now (in_limits card) c.compile-in.result told.value;
+      stands = handed_back (contents card) c.args.log.now (in_limits card) c.compile_in.result told.value;
       law = compile_law;
     }

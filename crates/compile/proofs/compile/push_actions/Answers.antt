@@ -14,10 +14,10 @@ pub loop-number-preserved : goal.loop-number-preserved
 loop-number-preserved c =
     let of = action_of (contents c.args.card.now) (entries c.args.log.now) in
     let i = c.loop-number.number in (
-      omega (arith, c.loop-number.invariant.0, c.push-reserved.ensures.len),
-      c.push-reserved.ensures.capacity ∙ c.loop-number.invariant.1,
-      c.push-reserved.ensures.items
-          ∙ ap (λ xs. xs ++ (c.action-of.result ∷ [])) c.loop-number.invariant.2
-          ∙ ap (λ x. map of (range_with_len 0 i) ++ (x ∷ [])) c.action-of.ensures
+      omega (arith, c.loop-number.invariant.0, c.push_reserved.ensures.len),
+      c.push_reserved.ensures.capacity ∙ c.loop-number.invariant.1,
+      c.push_reserved.ensures.items
+          ∙ ap (λ xs. xs ++ (c.action_of.result ∷ [])) c.loop-number.invariant.2
+          ∙ ap (λ x. map of (range_with_len 0 i) ++ (x ∷ [])) c.action_of.ensures
           ∙ sym (map-range_with_len_more of 0 i i (omega arith)),
     )

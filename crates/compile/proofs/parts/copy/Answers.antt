@@ -28,4 +28,4 @@ returns c =
     let same : number ≡ get_or log place 0 = there_at log place c.from.result c.from.ensures c.requires.within c.entry.result c.entry.ensures 0 number c.unwrap-number.ensures in
     let below : number < length card.actions = omega (arith, c.requires.fits.entries_below place c.requires.within) in
     let own_is : own ≡ action_at card (get_or log place 0) = there card.actions number below c.action.result c.action.ensures no_action own c.unwrap-own.ensures ∙ ap (action_at card) same in
-    copy_is card log place own c.mark-before.result c.mark.result c.with.result c.with-2.result own_is c.mark-before.ensures c.mark.ensures c.with.ensures c.with-2.ensures
+    copy_is card log place own c.mark_before.result c.mark.result c.with.result c.with-2.result own_is c.mark_before.ensures c.mark.ensures c.with.ensures c.with-2.ensures

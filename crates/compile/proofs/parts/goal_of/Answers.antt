@@ -10,7 +10,7 @@ pub unwrap-requires : goal.unwrap-requires
 unwrap-requires c = is_there (contents c.args.card.now).goals c.args.number (omega arith) c.goal.result c.goal.ensures empty_set
 
 pub unwrap-requires-else-number-count : goal.unwrap-requires-else-number-count
-unwrap-requires-else-number-count c = is_there (contents c.args.card.now).goals (c.args.number - c.goal-count-count.result) (omega (arith, c.requires.within)) c.goal-else-number-count.result c.goal-else-number-count.ensures empty_set
+unwrap-requires-else-number-count c = is_there (contents c.args.card.now).goals (c.args.number - c.goal_count-count.result) (omega (arith, c.requires.within)) c.goal-else-number-count.result c.goal-else-number-count.ensures empty_set
 
 pub returns-then-number-count : goal.returns-then-number-count
 returns-then-number-count c =
@@ -25,6 +25,6 @@ returns-else-number-count c =
     let log = entries c.args.log.now in
     let g = c.args.number in
     let goal = c.unwrap-else-number-count.result in
-    let same : g - c.goal-count-count.result ≡ g - length card.goals = omega arith in
-    let goal-is : goal ≡ goal_at card (g - length card.goals) = there_at card.goals (g - length card.goals) (g - c.goal-count-count.result) same (omega (arith, c.requires.within)) c.goal-else-number-count.result c.goal-else-number-count.ensures empty_set goal c.unwrap-else-number-count.ensures in
-    log_goal card log g goal c.marks.result c.with.result (omega arith) goal-is (c.marks.ensures ∙ ap (marks card) c.len.ensures) c.with.ensures
+    let same : g - c.goal_count-count.result ≡ g - length card.goals = omega arith in
+    let goal_is : goal ≡ goal_at card (g - length card.goals) = there_at card.goals (g - length card.goals) (g - c.goal_count-count.result) same (omega (arith, c.requires.within)) c.goal-else-number-count.result c.goal-else-number-count.ensures empty_set goal c.unwrap-else-number-count.ensures in
+    log_goal card log g goal c.marks.result c.with.result (omega arith) goal_is (c.marks.ensures ∙ ap (marks card) c.len.ensures) c.with.ensures

@@ -9,6 +9,6 @@ pub returns : goal.returns
 returns c =
     let card = contents c.args.card.now in
     let bytes = c.args.bytes.now in
-    let log = entries c.in-ok-log.log in
-    let all : Ok log ≡ accepted_log card bytes = log_accepted card bytes log c.action_count.result c.action_count.ensures c.in-ok-log.ensures (omega arith) (omega arith) (omega arith) in
+    let log = entries c.in_ok-log.log in
+    let all : Ok log ≡ accepted_log card bytes = log_accepted card bytes log c.action_count.result c.action_count.ensures c.in_ok-log.ensures (omega arith) (omega arith) (omega arith) in
     record { value = all; fits = (accepted_fits card bytes log (sym all)).0 }
