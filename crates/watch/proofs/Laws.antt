@@ -1,19 +1,15 @@
 -- From what a call does to the law of every run that it ends.
-use Rattle.std.proofs.Common.{◌≡◌, ℕ, ◌<◌, ◌≤◌, Bool, true, false, cond, ◌&&◌, eqb, ltb, leb, List, [], ◌∷◌, ◌++◌, length, take, set, Some, None, Ok, Err, Option, Result, sym, refl, ap, ◌∙◌, subst, arith}
-use Rattle.std.proofs.lemmas.Bool.{cases_Bool, lt-ltb, eq-eqb, eqb-false, and_from}
+use Rattle.std.proofs.Common.{◌≡◌, ℕ, ◌≤◌, Bool, true, false, cond, eqb, List, length, Some, None, Ok, Err, Option, Result, sym, refl, ap, ◌∙◌, subst, arith}
+use Rattle.std.proofs.lemmas.Bool.{lt-ltb, eqb-false}
 use Rattle.board.specs.declared.row.BoardRow.{BoardRow}
 use Rattle.board.specs.Rows.{judged_row, agrees}
 use Rattle.domain.specs.declared.fault.LogFault.{LogFault}
 use Rattle.domain.specs.Faults.{log_number}
 use Rattle.domain.specs.Meaning.{Meaning, Limits}
-use Rattle.plans.specs.declared.verdict.Verdict.{Verdict}
 use Rattle.plans.specs.declared.verdict.Verdict.TheVariants as verdicts
 use Rattle.plans.specs.Laws.{Watchable}
-use Rattle.plans.specs.Plans.{cost_of, PlanFor, CompletePlan, LeastCost}
-use Rattle.plans.specs.Verdicts.{verdict_of}
-use Rattle.plans.specs.Watched.{watched}
-use Rattle.search.specs.declared.fault.SearchFault.{SearchFault}
-use Rattle.search.specs.Answers.{Sizes, Refused, Accepted, Answered}
+use Rattle.plans.specs.Plans.{PlanFor, CompletePlan, LeastCost}
+use Rattle.search.specs.Answers.{Sizes}
 use Rattle.watched.specs.Noting.{add_outcome, drop_outcome}
 use Rattle.watch.specs.declared.fault.WatchFault.{WatchFault}
 use Rattle.watch.specs.declared.fault.WatchFault.TheVariants.{Log, Search, Rank}
@@ -24,7 +20,7 @@ use Rattle.watch.specs.Calls.{Event, note, retract}
 use Rattle.watch.specs.Faults.{watch_number, of_log}
 use Rattle.watch.specs.Reporting.{Reported, report_answer}
 use Rattle.watch.specs.Reports.{numbered, Right}
-use Rattle.watch.specs.Runs.{Ran, RowsAfter, Then}
+use Rattle.watch.specs.Runs.{RowsAfter, Then}
 use Rattle.watch.proofs.Reporting.{watchable, right_report}
 use Rattle.watch.proofs.Stepping.{carried_on}
 

@@ -1,5 +1,6 @@
 -- A list of calls, one after another.
-use Rattle.std.proofs.Common.{◌≡◌, ℕ, ◌<◌, ◌≤◌, min, List, [], ◌∷◌, ◌++◌, length, take, Ok, Err, Result, sym, refl, ap, ◌∙◌, subst, arith}
+use Rattle.std.proofs.Common.{◌≡◌, ℕ, ◌-◌, ◌≤◌, min, List, ◌++◌, length, take, Ok, Err, Result, sym, refl, ap, ◌∙◌, subst, arith}
+use Rattle.std.proofs.lemmas.Grind.{common_steps}
 use lib.Seq.{take-append-le}
 use Rattle.board.specs.declared.row.BoardRow.{BoardRow}
 use Rattle.domain.specs.Meaning.{Meaning}
@@ -16,8 +17,12 @@ answer_front m goal s before part post (Ok r) fits told =
     ap (λ plan. Ok (record { verdict = r.verdict; without = r.without; with = r.with; plan = plan })) (take-append-le r.length part post (omega (arith, told.0.found.shown.short, told.0.suited.places)))
 answer_front m goal s before part post (Err fault) fits told = refl
 
-same_sizes : (a b c x y z : ℕ) → a ≡ x → b ≡ y → c ≡ z → ◌≡◌ {A = Sizes} (record { rows = a; waiting = b; places = c }) (record { rows = x; waiting = y; places = z })
+pub same_sizes : (a b c x y z : ℕ) → a ≡ x → b ≡ y → c ≡ z → ◌≡◌ {A = Sizes} (record { rows = a; waiting = b; places = c }) (record { rows = x; waiting = y; places = z })
 same_sizes a b c x y z p q r = λ i. record { rows = p i; waiting = q i; places = r i }
+
+-- the front of a place, as long as is asked for where the place has that much
+pub cut_length : {X : Type 0} (xs : List X) (asked long k : ℕ) → length xs ≡ long → k ≡ min asked long → length (take (k - 0) xs) ≡ min asked long
+cut_length xs asked long k e f = grind (arith, common_steps)
 
 module _ (d m : Meaning) (log log' : List ℕ) (rows rows' : List BoardRow) (goal : ℕ) (s t : Sizes) (before part post : List ℕ) (r : Result report.Report WatchFault) (answer : Result calls.Report ℕ) where
   -- a report on parts of the places that are lent

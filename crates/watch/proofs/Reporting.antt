@@ -1,7 +1,7 @@
 -- What the search answers on a watched domain, in the words of the domain below.
-use Rattle.std.proofs.Common.{◌≡◌, ℕ, ◌+◌, ◌-◌, ◌<◌, ◌≤◌, Bool, true, false, cond, eqb, ltb, leb, List, [], ◌∷◌, ◌++◌, length, take, is_ok, Some, None, Ok, Err, Option, Result, sym, refl, ap, ◌∙◌, subst, ⊎_elim, arith}
+use Rattle.std.proofs.Common.{◌≡◌, ℕ, ◌-◌, Bool, true, false, cond, eqb, ltb, leb, List, [], ◌∷◌, ◌++◌, length, take, is_ok, Some, None, Ok, Err, Option, sym, refl, ap, ◌∙◌, subst, arith}
 use Rattle.std.proofs.lemmas.List.{length_push, length-take}
-use Rattle.std.proofs.lemmas.Bool.{cases_Bool, cases_lt, cases_eq, cond-true, cond-false, eqb-true, leb-true, leb-false, ltb-true, ltb-false, true≢false}
+use Rattle.std.proofs.lemmas.Bool.{eqb-true, leb-true, ltb-true}
 use Rattle.domain.specs.declared.fault.LogFault.TheVariants.{Action, Width, Full}
 use Rattle.domain.specs.Meaning.{Meaning, Limits}
 use Rattle.plans.specs.declared.verdict.Verdict.{Verdict}
@@ -17,10 +17,9 @@ use Rattle.plans.proofs.LeastCosts.{watched_cost, cheapest_over, least_admitted,
 use Rattle.plans.proofs.Completing.{whole_of_complete, complete_of_whole, below_of_complete, complete_of_below}
 use Rattle.plans.proofs.Watching.{plan_laws}
 use Rattle.search.specs.Answers.{Sizes, ShownKind, Accepted}
-use Rattle.watched.specs.Noting.{add_outcome}
 use Rattle.watch.specs.Book.{log_after, book_from, book}
 use Rattle.watch.specs.Calls.{Call, Report, Event, note, retract, report}
-use Rattle.watch.specs.Reports.{ShownBy, StandsBelow, RightBelow, RightReport}
+use Rattle.watch.specs.Reports.{ShownBy, RightBelow, RightReport}
 
 -- The log of a book can be watched: it has at most 20 entries, and none over a width above 55.
 note_if : (d : Meaning) (log : List ℕ) (a : ℕ) (x y z : Bool) → ltb a d.actions ≡ x → leb d.width 55 ≡ y → ltb (length log) 20 ≡ z → Watchable d log → Watchable d (cond (is_ok {T = Unit {0}} (cond x (cond y (cond z (Ok tt) (Err Full)) (Err Width)) (Err Action))) (log ++ (a ∷ [])) log)

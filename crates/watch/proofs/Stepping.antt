@@ -1,5 +1,5 @@
 -- One call more: the law of a run is carried on.
-use Rattle.std.proofs.Common.{◌≡◌, ℕ, ◌+◌, ◌-◌, ◌<◌, ◌≤◌, Bool, true, false, cond, ltb, ◌⊎◌, List, [], ◌∷◌, ◌++◌, length, get_or, take, set, replicate, is_ok, Some, None, Ok, Err, Option, Result, sym, refl, ap, ◌∙◌, subst, inl, inr, ⊎_elim, append_assoc, arith}
+use Rattle.std.proofs.Common.{◌≡◌, ℕ, ◌<◌, Bool, true, false, cond, ltb, List, [], ◌∷◌, ◌++◌, length, get_or, take, set, replicate, is_ok, Some, None, Ok, Err, Option, Result, sym, refl, ap, ◌∙◌, subst, ⊎_elim, append_assoc, arith}
 use Rattle.std.proofs.lemmas.List.{get_or-replicate, get_or-set_same, get_or-set_other, take_all}
 use Rattle.std.proofs.lemmas.Bool.{cases_eq, cond-false, ltb-false}
 use Rattle.board.specs.declared.row.BoardRow.{BoardRow}
@@ -11,11 +11,11 @@ use Rattle.plans.specs.declared.verdict.Verdict.{Verdict}
 use Rattle.plans.specs.Logs.{Admitted, Whole}
 use Rattle.plans.specs.Plans.{LeastCost}
 use Rattle.plans.specs.Verdicts.{verdict_of}
-use Rattle.watched.specs.Noting.{add_outcome, drop_outcome}
+use Rattle.watched.specs.Noting.{add_outcome}
 use Rattle.watch.specs.Book.{log_after, book_from, book}
-use Rattle.watch.specs.Calls.{Call, Event, note, retract, report}
-use Rattle.watch.specs.Reports.{numbered, Right, RightReport}
-use Rattle.watch.specs.Runs.{ReportsOn, ChangesLog, Occurs, LogChanges, NotReported, Holds, RowTells, Ran, RowsAfter, Then}
+use Rattle.watch.specs.Calls.{Event, note, retract, report}
+use Rattle.watch.specs.Reports.{numbered, Right}
+use Rattle.watch.specs.Runs.{ReportsOn, ChangesLog, Occurs, LogChanges, NotReported, Holds, RowTells, Ran, RowsAfter}
 
 -- Where an event stands in a run that has one more at the end: it is the last, or stands in the run.
 pub data Split (run before : List Event) (e x : Event) (later : List Event) : Type 0 where

@@ -14,7 +14,7 @@ use Rattle.search.specs.Answers.{Sizes, Suited, Refused, RepeatsNone}
 use Rattle.search.specs.Faults.{search_number}
 use Rattle.watched.specs.Noting.{add_outcome, drop_outcome}
 use Rattle.watch.specs.Book.{present}
-use Rattle.watch.specs.Calls.{Call, Report, Event, note, retract, report}
+use Rattle.watch.specs.Calls.{Report, Event, note, retract, report}
 
 -- the plan that is shown, by the verdict
 abbrev pub ShownBy : Meaning → List ℕ → ℕ → Verdict → List ℕ → Type 0

@@ -1,5 +1,5 @@
 -- What holds after any run of calls on one watch, from its beginning.
-use Rattle.std.specs.Prelude.{◌≡◌, ℕ, ◌<◌, List, [], ◌∷◌, ◌++◌, length, replicate, Some, None, Ok, Err, slice_index_or, slice_set}
+use Rattle.std.specs.Prelude.{◌≡◌, ℕ, ◌<◌, List, [], ◌∷◌, ◌++◌, replicate, Some, None, Ok, Err, slice_index_or, slice_set}
 use Rattle.board.specs.declared.row.BoardRow.{BoardRow}
 use Rattle.board.specs.Rows.{open_row, judged_row}
 use Rattle.domain.specs.Meaning.{Meaning}
@@ -8,7 +8,7 @@ use Rattle.plans.specs.Logs.{Admitted, Whole}
 use Rattle.plans.specs.Plans.{LeastCost}
 use Rattle.plans.specs.Verdicts.{verdict_of}
 use Rattle.watch.specs.Book.{book}
-use Rattle.watch.specs.Calls.{Call, Event, note, retract, report}
+use Rattle.watch.specs.Calls.{Event, note, retract, report}
 use Rattle.watch.specs.Reports.{Right}
 
 -- an accepted report on goal g

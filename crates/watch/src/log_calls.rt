@@ -21,7 +21,7 @@ impl<D: Domain> Watch<D> {
         ensures domain { result.watched.domain ≡ domain }
         ensures log { entries result.watched.log ≡ [] }
         ensures rows { result.board.rows ≡ replicate 32 open_row }
-        ensures law { Ran (meaning domain) [] (entries result.watched.log) result.board.rows }
+        ensures law { Ran (D.meaning domain) [] (entries result.watched.log) result.board.rows }
     {
         Watch {
             watched: Watched::new(domain),
@@ -31,8 +31,8 @@ impl<D: Domain> Watch<D> {
 
     // One entry more, and every row open.
     fn add(&mut self, action: u8) -> Result<(), WatchFault>
-        ensures value { result ≡ of_log (add_outcome (meaning self.old.watched.domain) (entries self.old.watched.log) action) }
-        ensures log { entries self.new.watched.log ≡ log_after (meaning self.old.watched.domain) (entries self.old.watched.log) (note action) }
+        ensures value { result ≡ of_log (add_outcome (D.meaning self.old.watched.domain) (entries self.old.watched.log) action) }
+        ensures log { entries self.new.watched.log ≡ log_after (D.meaning self.old.watched.domain) (entries self.old.watched.log) (note action) }
         ensures rows { RowsAfter self.old.board.rows (note action, numbered watch_number result) self.new.board.rows }
         ensures domain { self.new.watched.domain ≡ self.old.watched.domain }
     {
@@ -48,7 +48,7 @@ impl<D: Domain> Watch<D> {
     // The last entry less, and every row open.
     fn drop_last(&mut self) -> Result<(), WatchFault>
         ensures value { result ≡ of_log (drop_outcome (entries self.old.watched.log)) }
-        ensures log { entries self.new.watched.log ≡ log_after (meaning self.old.watched.domain) (entries self.old.watched.log) retract }
+        ensures log { entries self.new.watched.log ≡ log_after (D.meaning self.old.watched.domain) (entries self.old.watched.log) retract }
         ensures rows { RowsAfter self.old.board.rows (retract, numbered watch_number result) self.new.board.rows }
         ensures domain { self.new.watched.domain ≡ self.old.watched.domain }
     {
@@ -63,11 +63,11 @@ impl<D: Domain> Watch<D> {
 
     // Notes an action that was seen: it is appended to the log, and every row is opened.
     pub(crate) fn note(&mut self, action: u8) -> Result<(), WatchFault>
-        ensures value { result ≡ of_log (add_outcome (meaning self.old.watched.domain) (entries self.old.watched.log) action) }
-        ensures log { entries self.new.watched.log ≡ log_after (meaning self.old.watched.domain) (entries self.old.watched.log) (note action) }
+        ensures value { result ≡ of_log (add_outcome (D.meaning self.old.watched.domain) (entries self.old.watched.log) action) }
+        ensures log { entries self.new.watched.log ≡ log_after (D.meaning self.old.watched.domain) (entries self.old.watched.log) (note action) }
         ensures rows { RowsAfter self.old.board.rows (note action, numbered watch_number result) self.new.board.rows }
         ensures domain { self.new.watched.domain ≡ self.old.watched.domain }
-        ensures law { Then (meaning self.old.watched.domain) (note action, numbered watch_number result) (entries self.old.watched.log) self.old.board.rows (entries self.new.watched.log) self.new.board.rows }
+        ensures law { Then (D.meaning self.old.watched.domain) (note action, numbered watch_number result) (entries self.old.watched.log) self.old.board.rows (entries self.new.watched.log) self.new.board.rows }
     {
         self.add(action)
     }
@@ -75,10 +75,10 @@ impl<D: Domain> Watch<D> {
     // Takes the last note back: its entry is dropped, and every row is opened.
     pub(crate) fn retract(&mut self) -> Result<(), WatchFault>
         ensures value { result ≡ of_log (drop_outcome (entries self.old.watched.log)) }
-        ensures log { entries self.new.watched.log ≡ log_after (meaning self.old.watched.domain) (entries self.old.watched.log) retract }
+        ensures log { entries self.new.watched.log ≡ log_after (D.meaning self.old.watched.domain) (entries self.old.watched.log) retract }
         ensures rows { RowsAfter self.old.board.rows (retract, numbered watch_number result) self.new.board.rows }
         ensures domain { self.new.watched.domain ≡ self.old.watched.domain }
-        ensures law { Then (meaning self.old.watched.domain) (retract, numbered watch_number result) (entries self.old.watched.log) self.old.board.rows (entries self.new.watched.log) self.new.board.rows }
+        ensures law { Then (D.meaning self.old.watched.domain) (retract, numbered watch_number result) (entries self.old.watched.log) self.old.board.rows (entries self.new.watched.log) self.new.board.rows }
     {
         self.drop_last()
     }

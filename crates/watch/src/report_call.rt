@@ -25,7 +25,7 @@ impl<D: Domain> Watch<D> {
         waiting: &mut [Entry],
         plan: &mut [u8],
     ) -> Result<Report, WatchFault>
-        ensures reported { Reported (present (meaning self.old.watched.domain) (entries self.old.watched.log)) goal (record { rows = length table.old; waiting = length waiting.old; places = length plan.old }) plan.old plan.new result }
+        ensures reported { Reported (present (D.meaning self.old.watched.domain) (entries self.old.watched.log)) goal (record { rows = length table.old; waiting = length waiting.old; places = length plan.old }) plan.old plan.new result }
         ensures rows { RowsAfter self.old.board.rows (report goal (record { rows = length table.old; waiting = length waiting.old; places = length plan.old }), report_answer plan.new result) self.new.board.rows }
         ensures watched { self.new.watched ≡ self.old.watched }
         ensures tables { TablesStay result (table.new ≡ table.old) }
@@ -55,12 +55,12 @@ impl<D: Domain> Watch<D> {
         waiting: &mut [Entry],
         plan: &mut [u8],
     ) -> Result<Report, WatchFault>
-        ensures reported { Reported (present (meaning self.old.watched.domain) (entries self.old.watched.log)) goal (record { rows = length table.old; waiting = length waiting.old; places = length plan.old }) plan.old plan.new result }
+        ensures reported { Reported (present (D.meaning self.old.watched.domain) (entries self.old.watched.log)) goal (record { rows = length table.old; waiting = length waiting.old; places = length plan.old }) plan.old plan.new result }
         ensures rows { RowsAfter self.old.board.rows (report goal (record { rows = length table.old; waiting = length waiting.old; places = length plan.old }), report_answer plan.new result) self.new.board.rows }
         ensures watched { self.new.watched ≡ self.old.watched }
         ensures tables { TablesStay result (table.new ≡ table.old) }
         ensures waiting { TablesStay result (waiting.new ≡ waiting.old) }
-        ensures law { Then (meaning self.old.watched.domain) (report goal (record { rows = length table.old; waiting = length waiting.old; places = length plan.old }), report_answer plan.new result) (entries self.old.watched.log) self.old.board.rows (entries self.new.watched.log) self.new.board.rows }
+        ensures law { Then (D.meaning self.old.watched.domain) (report goal (record { rows = length table.old; waiting = length waiting.old; places = length plan.old }), report_answer plan.new result) (entries self.old.watched.log) self.old.board.rows (entries self.new.watched.log) self.new.board.rows }
     {
         self.judge(goal, table, waiting, plan)
     }

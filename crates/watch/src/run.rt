@@ -1,7 +1,6 @@
 // A list of calls on one watch.
 ghost use Rattle.std.specs.Prelude.{◌≡◌, ℕ, List, length};
 ghost use Rattle.logs.specs.Entries.{entries};
-ghost use Rattle.search.specs.Answers.{Sizes};
 ghost use Rattle.watch.specs.Faults.{watch_number};
 ghost use Rattle.watch.specs.Lists.{plain_answer, plan_answer, event_of};
 ghost use Rattle.watch.specs.Reporting.{report_answer};
@@ -47,7 +46,7 @@ impl<D: Domain> Watch<D> {
         slot: &mut Slot,
     )
         ensures domain { self.new.watched.domain ≡ self.old.watched.domain }
-        ensures law { Then (meaning self.old.watched.domain) (event_of (record { rows = length table.old; waiting = length waiting.old; places = 4096 }) (calls.Report request) slot.new) (entries self.old.watched.log) self.old.board.rows (entries self.new.watched.log) self.new.board.rows }
+        ensures law { Then (D.meaning self.old.watched.domain) (event_of (record { rows = length table.old; waiting = length waiting.old; places = 4096 }) (calls.Report request) slot.new) (entries self.old.watched.log) self.old.board.rows (entries self.new.watched.log) self.new.board.rows }
     {
         let rows = request.rows.min(table.len());
         let entries = request.waiting.min(waiting.len());

@@ -14,7 +14,7 @@ use rank::rank;
 impl<D: Domain> Watch<D> {
     // The row of a goal, if the domain has one of that number.
     pub(crate) fn row(&self, goal: u8) -> Option<BoardRow>
-        ensures { result ≡ (if nat_lt goal (meaning self.now.watched.domain).goals then slice_get self.now.board.rows goal else None) }
+        ensures { result ≡ (if nat_lt goal (D.meaning self.now.watched.domain).goals then slice_get self.now.board.rows goal else None) }
     {
         if goal < self.watched.domain().goal_count() {
             self.board.row(goal)
@@ -46,7 +46,7 @@ impl<D: Domain> Watch<D> {
 
     // The goals in rank order, into the front of the place; the answer is how many there are.
     pub(crate) fn rank(&self, place: &mut [u8]) -> Result<usize, WatchFault>
-        ensures value { result ≡ of_rank (rank_answer (meaning self.now.watched.domain).goals (length place.old)) }
+        ensures value { result ≡ of_rank (rank_answer (D.meaning self.now.watched.domain).goals (length place.old)) }
         ensures place { MatchResult result (λ n. RankedInto self.now.board.rows n place.old place.new) (λ _. place.new ≡ place.old) }
     {
         match rank(&self.board, self.watched.domain().goal_count(), place) {
