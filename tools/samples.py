@@ -1,11 +1,13 @@
 #!/usr/bin/env python3
-"""Makes the sample domains, and what the program `describe` must print of them.
+"""Makes the sample domains, lists and logs, and what the programs `describe` and `costs` must print of them.
 
 Run from the root of the repository: python3 tools/samples.py
-It writes crates/describe/data, crates/describe/args and crates/describe/stdout.
-Nothing here is taken from the program: files are encoded and described a second time,
-and of each damaged file the number, record and byte of its refusal are written by hand.
+It writes data, args and stdout of crates/describe and of crates/costs.
+Nothing here is taken from the programs: files are encoded and described a second time, and lists
+are run and judged a second time. Of each damaged file the number, record and byte of its refusal
+are written by hand, and so is the number of a refused log.
 """
+import heapq
 import os
 import shutil
 from collections import namedtuple
@@ -74,6 +76,115 @@ def map_lines(field_map):
     for i, goal in enumerate(field_map.goals):
         yield f"  goal {i}: place {goal}"
 
+
+# Judging a list of actions.
+
+def run(domain, state, action):
+    """The next state, or None where the action cannot run. A card's state is a set, a map's a place."""
+    if isinstance(domain, Card):
+        if action >= len(domain.actions) or not domain.actions[action].needs <= state:
+            return None
+        return (state - domain.actions[action].deletes) | domain.actions[action].adds
+    if action >= len(domain.moves) or domain.moves[action].start != state:
+        return None
+    return domain.moves[action].end
+
+
+def state_number(domain, state):
+    return bits(state) if isinstance(domain, Card) else state
+
+
+def places_of(log, plan):
+    """The earliest rising places that hold the entries; None where there are none."""
+    places, at = [], 0
+    for entry in log:
+        if entry not in plan[at:]:
+            return None
+        places.append(plan.index(entry, at))
+        at = places[-1] + 1
+    return places
+
+
+def numbers(row, empty):
+    return " ".join(map(str, row)) or empty
+
+
+def list_lines(domain, plan, log):
+    yield f"  list: {numbers(plan, 'empty')}, log: {numbers(log, 'empty')}"
+    states = [set(domain.start) if isinstance(domain, Card) else domain.start]
+    while len(states) <= len(plan) and (after := run(domain, states[-1], plan[len(states) - 1])) is not None:
+        states.append(after)
+    ran = len(states) - 1
+    yield f"  states: {numbers((state_number(domain, state) for state in states), '')}"
+    if ran < len(plan):
+        yield f"  cannot run: action {plan[ran]} at place {ran}, in state {state_number(domain, states[-1])}"
+        return
+    steps = domain.actions if isinstance(domain, Card) else domain.moves
+    met = [i for i, goal in enumerate(domain.goals) if meets(domain, states[-1], goal)]
+    yield f"  cost {sum(steps[action].cost for action in plan)}"
+    yield f"  meets goals: {numbers(met, 'none')}"
+    yield f"  admitted: {'yes' if {action for action in plan if steps[action].marked} <= set(log) else 'no'}"
+    carried = max(n for n in range(len(log) + 1) if places_of(log[:n], plan) is not None)
+    if carried < len(log):
+        yield f"  does not carry entry {carried} of the log, action {log[carried]}"
+    elif not log:
+        yield "  carries the empty log"
+    else:
+        yield f"  carries the log at places: {numbers(places_of(log, plan), '')}"
+
+
+# Least costs. Among equally cheap plans the program may choose: it settles states by cost and then by number,
+# keeps the first of equal ways, and shows the way to the first of equally cheap states in the order in which they were found.
+
+ROWS = 4096
+
+
+def meets(domain, state, goal):
+    return goal <= state if isinstance(domain, Card) else goal == state
+
+
+def cheapest_ways(domain):
+    """The way to each state in the order in which they were found, as (cost, actions); None where there are more than ROWS."""
+    steps = domain.actions if isinstance(domain, Card) else domain.moves
+    start = frozenset(domain.start) if isinstance(domain, Card) else domain.start
+    ways, settled = {start: (0, [])}, set()
+    waiting = [(0, state_number(domain, start), start)]
+    while waiting:
+        cost, _, state = heapq.heappop(waiting)
+        if state in settled:
+            continue
+        settled.add(state)
+        for action, step in enumerate(steps):
+            after = run(domain, state, action)
+            if after is None:
+                continue
+            after = frozenset(after) if isinstance(domain, Card) else after
+            if after not in ways or cost + step.cost < ways[after][0]:
+                if after not in ways and len(ways) == ROWS:
+                    return None
+                ways[after] = (cost + step.cost, ways[state][1] + [action])
+                heapq.heappush(waiting, (cost + step.cost, state_number(domain, after), after))
+    return ways
+
+
+def cost_lines(domain):
+    ways = cheapest_ways(domain)
+    for i, goal in enumerate(domain.goals):
+        if ways is None:
+            yield f"  goal {i}: refused 17: are the reachable states no more than the rows?"
+            continue
+        ends = [way for state, way in ways.items() if meets(domain, state, goal)]
+        if ends:
+            cost, actions = min(ends, key=lambda way: way[0])
+            yield f"  goal {i} costs {cost}: actions {numbers(actions, 'none')}"
+        else:
+            yield f"  goal {i} has no plan"
+
+
+LOG_QUESTIONS = {
+    11: "is every entry below the count of actions?",
+    13: "has the log at most 20 entries?",
+}
 
 QUESTIONS = {
     1: "is the first byte the letter of a kind?",
@@ -157,7 +268,18 @@ NIGHT = Card(30, {DOME_SHUT, COVER_ON, PARKED, IMAGER, BLUE, WIDE}, [
 WIDE_CARD = Card(55, {54}, [Action({0, 54}, {53}, {54}, 60000, True), Action(set(), set(), set(), 1)], [set(), set(range(55))])
 WIDE_MAP = FieldMap(64, 63, [Move(i % 64, (i + 1) % 64, 500 * i, i % 7 == 0) for i in range(120)], list(range(32, 64)))
 
-SAMPLES = [("calibration", CALIBRATION), ("slews", SLEWS), ("night", NIGHT), ("limits/card", WIDE_CARD), ("limits/map", WIDE_MAP)]
+# moves that cost nothing, round in a ring and on
+RING = FieldMap(5, 0, [Move(0, 1, 0), Move(1, 2, 0), Move(2, 0, 0), Move(2, 3, 0), Move(3, 4, 7)], [0, 3, 4])
+
+# twelve switches: as many states as a table may have rows; and with a lamp that lights when all are on, one state more
+SWITCHES = Card(12, set(), [Action(set(), {i}, set(), i % 3) for i in range(12)], [set(range(12)), {11}])
+SWITCHES_AND_LAMP = Card(13, set(), SWITCHES.actions + [Action(set(range(12)), {12}, set(), 1)], SWITCHES.goals + [{12}])
+
+# the domains that are described
+DESCRIBED = [("calibration", CALIBRATION), ("slews", SLEWS), ("night", NIGHT), ("limits/card", WIDE_CARD), ("limits/map", WIDE_MAP)]
+
+# the domains whose goals are searched for
+SEARCHED = DESCRIBED + [("ring", RING), ("limits/states", SWITCHES), ("limits/states_and_one", SWITCHES_AND_LAMP)]
 
 # Damaged files: the name, the bytes, and the refusal's number, record and byte.
 K = card_bytes(CALIBRATION)
@@ -223,36 +345,116 @@ DAMAGED = [
 ]
 
 
-def main():
-    root = os.path.join("crates", "describe")
-    data = os.path.join(root, "data")
-    shutil.rmtree(data, ignore_errors=True)
+# Lists and logs beside a domain: the name, the domain, the list, the log (None: no such file), and the number of a refused log.
+LISTS = [
+    ("repeated_entry", CALIBRATION, [1, 4, 1, 2], [1, 1], None),
+    ("entry_not_carried", CALIBRATION, [1, 2], [1, 1], None),
+    ("order_of_entries", CALIBRATION, [1, 0, 3], [0, 1], None),
+    ("cannot_run", CALIBRATION, [0, 2, 3], [0], None),
+    ("no_such_action", CALIBRATION, [1, 6], None, None),
+    ("empty_list", CALIBRATION, [], None, None),
+    ("empty_list_with_log", CALIBRATION, [], [1], None),
+    ("log_alone", CALIBRATION, None, [1], None),
+    ("two_goals", CALIBRATION, [1, 2, 0, 3], [2, 3], None),
+    ("marks_logged", NIGHT, [24, 0, 2, 4, 6], [0, 4, 6], None),
+    ("mark_not_logged", NIGHT, [24, 0, 2, 4, 6], [0, 6], None),
+    ("map_list", SLEWS, [2, 3], [2], None),
+    ("map_cannot_run", SLEWS, [0, 3], [], None),
+    ("map_at_limits", WIDE_MAP, [63, 64, 65], [63], None),
+    ("log_of_20", CALIBRATION, [1] * 21, [1] * 20, None),
+    ("log_of_21", CALIBRATION, [1] * 21, [1] * 21, 13),
+    ("entry_past_actions", CALIBRATION, [1], [1, 6], 11),
+    ("log_of_21_past_actions", CALIBRATION, [1], [6] + [1] * 20, 13),
+    ("no_domain", None, [0], [0], None),
+]
 
-    def store(name, content):
-        os.makedirs(os.path.join(data, name))
-        with open(os.path.join(data, name, "domain.bin"), "wb") as f:
+# Some of them by hand.
+assert list(list_lines(CALIBRATION, [1, 4, 1, 2], [1, 1])) == [
+    "  list: 1 4 1 2, log: 1 1",
+    "  states: 1 3 1 3 11",
+    "  cost 4",
+    "  meets goals: 0",
+    "  admitted: yes",
+    "  carries the log at places: 0 2",
+]
+assert list(list_lines(CALIBRATION, [1, 2], [1, 1]))[-1] == "  does not carry entry 1 of the log, action 1"
+assert list(list_lines(CALIBRATION, [0, 2, 3], [0]))[1:] == ["  states: 1 4", "  cannot run: action 2 at place 1, in state 4"]
+assert list(list_lines(SLEWS, [2, 3], [2]))[1:] == ["  states: 0 3 2", "  cost 4", "  meets goals: 0", "  admitted: yes", "  carries the log at places: 0"]
+assert list(cost_lines(SLEWS))[1:] == ["  goal 1 costs 2: actions 2 4", "  goal 2 has no plan"]
+
+
+def domain_bytes(domain):
+    return card_bytes(domain) if isinstance(domain, Card) else map_bytes(domain)
+
+
+def domain_lines(domain):
+    yield from card_lines(domain) if isinstance(domain, Card) else map_lines(domain)
+    yield f"  written again: {len(domain_bytes(domain))} bytes, the same bytes"
+
+
+def refusal_line(number, in_record, byte):
+    return f"  refused {number} record {in_record} byte {byte}: {QUESTIONS[number]}"
+
+
+class Program:
+    """The folders that a program is run on, and what it must print of each."""
+
+    def __init__(self, name):
+        self.root = os.path.join("crates", name)
+        self.folders, self.lines = [], []
+        shutil.rmtree(os.path.join(self.root, "data"), ignore_errors=True)
+
+    def store(self, folder, name, content):
+        place = os.path.join(self.root, "data", folder)
+        os.makedirs(place, exist_ok=True)
+        with open(os.path.join(place, name), "wb") as f:
             f.write(content)
 
-    names, lines = [], []
-    for name, domain in SAMPLES:
-        is_card = isinstance(domain, Card)
-        content = card_bytes(domain) if is_card else map_bytes(domain)
-        store(name, content)
-        names.append(name)
-        lines.append(name)
-        lines.extend(card_lines(domain) if is_card else map_lines(domain))
-        lines.append(f"  written again: {len(content)} bytes, the same bytes")
-    for name, content, (number, in_record, byte) in DAMAGED:
-        name = "damaged/" + name
+    def expect(self, folder, *told):
+        self.folders.append(folder)
+        self.lines.append(folder)
+        self.lines.extend(told)
+
+    def finish(self):
+        for path, texts in (("args", self.folders), ("stdout", self.lines)):
+            with open(os.path.join(self.root, path), "w") as f:
+                f.write("\n".join(texts) + "\n")
+
+
+def describe():
+    program = Program("describe")
+    for folder, domain in DESCRIBED:
+        program.store(folder, "domain.bin", domain_bytes(domain))
+        program.expect(folder, *domain_lines(domain))
+    for name, content, position in DAMAGED:
+        folder = "damaged/" + name
         if content is not None:
-            store(name, content)
-        names.append(name)
-        lines.append(name)
-        lines.append(f"  refused {number} record {in_record} byte {byte}: {QUESTIONS[number]}")
-    for path, texts in (("args", names), ("stdout", lines)):
-        with open(os.path.join(root, path), "w") as f:
-            f.write("\n".join(texts) + "\n")
+            program.store(folder, "domain.bin", content)
+        program.expect(folder, refusal_line(*position))
+    program.finish()
+
+
+def costs():
+    program = Program("costs")
+    for folder, domain in SEARCHED:
+        program.store(folder, "domain.bin", domain_bytes(domain))
+        program.expect(folder, *cost_lines(domain))
+    for name, domain, plan, log, refused in LISTS:
+        folder = "lists/" + name
+        for file, content in (("domain.bin", domain and domain_bytes(domain)), ("plan.bin", plan), ("log.bin", log)):
+            if content is not None:
+                program.store(folder, file, bytes(content))
+        if domain is None:
+            program.expect(folder, "  refused 1 record 0 byte 0")
+        elif refused is not None:
+            program.expect(folder, *cost_lines(domain), f"  refused {refused}: {LOG_QUESTIONS[refused]}")
+        elif plan is None:
+            program.expect(folder, *cost_lines(domain))
+        else:
+            program.expect(folder, *cost_lines(domain), *list_lines(domain, plan, log or []))
+    program.finish()
 
 
 if __name__ == "__main__":
-    main()
+    describe()
+    costs()
