@@ -278,6 +278,9 @@ SWITCHES_AND_LAMP = Card(13, set(), SWITCHES.actions + [Action(set(range(12)), {
 # the domains that are described
 DESCRIBED = [("calibration", CALIBRATION), ("slews", SLEWS), ("night", NIGHT), ("limits/card", WIDE_CARD), ("limits/map", WIDE_MAP)]
 
+# the damaged files of which the search says why they are refused: number, record and byte differ in each
+REFUSED = {"card_action_cut", "cost_60001", "map_goal_past_places", "map_with_more"}
+
 # the domains whose goals are searched for
 SEARCHED = DESCRIBED + [("ring", RING), ("limits/states", SWITCHES), ("limits/states_and_one", SWITCHES_AND_LAMP)]
 
@@ -445,13 +448,17 @@ def costs():
             if content is not None:
                 program.store(folder, file, bytes(content))
         if domain is None:
-            program.expect(folder, "  refused 1 record 0 byte 0")
+            program.expect(folder, refusal_line(1, 0, 0))
         elif refused is not None:
             program.expect(folder, *cost_lines(domain), f"  refused {refused}: {LOG_QUESTIONS[refused]}")
         elif plan is None:
             program.expect(folder, *cost_lines(domain))
         else:
             program.expect(folder, *cost_lines(domain), *list_lines(domain, plan, log or []))
+    for name, content, position in DAMAGED:
+        if name in REFUSED:
+            program.store("damaged/" + name, "domain.bin", content)
+            program.expect("damaged/" + name, refusal_line(*position))
     program.finish()
 
 

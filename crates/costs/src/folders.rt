@@ -1,10 +1,10 @@
 // The files of a folder, and what is said of its domain.
 use crate::costs_in_words::say_costs;
 use crate::lists_in_words::judge_list;
+use crate::refusals_in_words::say_refused;
 use anyhow::anyhow;
 use cards::card::Card;
 use domain::Domain;
-use domain::fault::ReadFault;
 use domain::room::Room;
 use maps::field_map::FieldMap;
 use std::fs;
@@ -39,15 +39,6 @@ pub(crate) fn bytes_or_empty(
         Some(bytes) => Ok(bytes),
         None => Ok(Vec::new(rt.alloc())),
     }
-}
-
-fn say_refused(rt: &HostRuntime, fault: ReadFault) -> anyhow::Result<()> {
-    let number = fault.number();
-    let at = fault.position();
-    let record = at.record;
-    let byte = at.byte;
-    println!(rt; "  refused {number} record {record} byte {byte}")?;
-    Ok(())
 }
 
 fn say_domain<D: Domain>(rt: &HostRuntime, folder: &str, domain: &D) -> anyhow::Result<()> {

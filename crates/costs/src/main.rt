@@ -6,6 +6,7 @@ mod costs_in_words;
 mod folders;
 mod lists_in_words;
 mod numbers_in_words;
+mod refusals_in_words;
 
 use crate::folders::say_folder;
 use std::env;
