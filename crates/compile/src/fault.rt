@@ -3,7 +3,7 @@ ghost use Rattle.std.specs.Prelude.{◌≡◌};
 ghost use Rattle.compile.specs.Faults.{compile_number};
 ghost use Rattle.compile.specs.declared.fault.CompileFault.TheVariants.{Log};
 
-use domain::fault::LogFault;
+use domain::fault::{LogFault, Numbered};
 
 // The question that was the first to be answered no.
 #[derive(Clone, Copy, PartialEq, Eq, Debug)]
@@ -18,10 +18,10 @@ pub enum CompileFault {
     Goals,
 }
 
-impl CompileFault {
-    pub fn number(self) -> u8
-        ensures { result ≡ compile_number self }
-    {
+impl Numbered for CompileFault {
+    ghost numbered = { compile_number };
+
+    fn number(self) -> u8 {
         match self {
             CompileFault::Log(log) => log.number(),
             CompileFault::Fluents => 19,

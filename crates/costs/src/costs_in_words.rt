@@ -1,6 +1,7 @@
 // The least cost of each goal, and a cheapest plan.
 use crate::numbers_in_words::numbers;
 use domain::Domain;
+use domain::fault::Numbered;
 use search::entry::Entry;
 use search::fault::SearchFault;
 use search::least_costs::least_costs;

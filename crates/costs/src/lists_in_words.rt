@@ -3,7 +3,7 @@ use crate::folders::{bytes_in, bytes_or_empty};
 use crate::numbers_in_words::{add_number, numbers};
 use anyhow::anyhow;
 use domain::Domain;
-use domain::fault::LogFault;
+use domain::fault::{LogFault, Numbered};
 use judge::carrying::carried;
 use judge::course::Course;
 use judge::marks::admits;

@@ -2,7 +2,7 @@
 ghost use Rattle.std.specs.Prelude.{◌≡◌, IfOk, string_bytes};
 ghost use Rattle.costs.specs.Words.{refusal_words};
 
-use domain::fault::ReadFault;
+use domain::fault::{Numbered, ReadFault};
 use std::alloc::{AllocError, Global};
 
 // What is asked of a file where the fault stands.

@@ -6,7 +6,7 @@ use crate::cards_in_words::describe_card;
 use crate::maps_in_words::describe_map;
 use anyhow::anyhow;
 use cards::card::Card;
-use domain::fault::{ReadFault, WriteFault};
+use domain::fault::{Numbered, ReadFault, WriteFault};
 use domain::room::Room;
 use maps::field_map::FieldMap;
 use std::alloc::{AllocError, Global};

@@ -1,5 +1,5 @@
--- The numbers of the refusals, one definition for each kind of fault.
-use Rattle.std.specs.Prelude.{ℕ}
+-- The numbers of the refusals, one definition for each kind of fault, and where a file is at fault.
+use Rattle.std.specs.Prelude.{ℕ, List, ◌++◌, codes, decimal}
 use Rattle.domain.specs.declared.fault.LogFault.{LogFault}
 use Rattle.domain.specs.declared.fault.LogFault.TheVariants.{Action, Width, Full, Empty}
 use Rattle.domain.specs.declared.fault.Position.{Position}
@@ -41,3 +41,7 @@ position_of (Cut p) = p
 position_of (Bits p) = p
 position_of (Field p) = p
 position_of (End p) = p
+
+-- a position as it is printed
+abbrev pub position_words : Position → List ℕ
+position_words at = codes "record " ++ (decimal at.«record» ++ (codes " byte " ++ decimal at.byte))

@@ -1,12 +1,33 @@
 // Why a call on a file is refused. Each case has a number, by which the programs report it.
-ghost use Rattle.std.specs.Prelude.{◌≡◌};
-ghost use Rattle.domain.specs.Faults.{read_number, write_number, log_number, room_number, position_of};
+ghost use Rattle.std.specs.Prelude.{◌≡◌, ℕ, Some, codes};
+ghost use Rattle.domain.specs.Faults.{read_number, write_number, log_number, room_number, position_of, position_words};
+ghost use Rattle.domain.specs.declared.fault.RoomFault.TheVariants.{Memory};
+
+use std::alloc::AllocError;
+use std::error::Error;
+use std::fmt;
+
+// A fault has a number, by which the programs report it.
+pub trait Numbered {
+    ghost numbered: { Self → ℕ };
+
+    fn number(self) -> u8
+        ensures { result ≡ numbered self };
+}
 
 // A place in a file. Records count from 0 for the header through actions and goals.
 #[derive(Clone, Copy, PartialEq, Eq, Debug)]
 pub struct Position {
     pub record: usize,
     pub byte: usize,
+}
+
+impl fmt::Display for Position {
+    ghost output = { λ at. Some (position_words at) };
+
+    fn fmt<W: fmt::Write>(&self, f: &mut fmt::Formatter<W>) -> fmt::Result {
+        write!(f, "record {} byte {}", self.record, self.byte)
+    }
 }
 
 // The question about a file that was the first to be answered no, and where.
@@ -30,10 +51,10 @@ pub enum ReadFault {
     End(Position),
 }
 
-impl ReadFault {
-    pub fn number(self) -> u8
-        ensures { result ≡ read_number self }
-    {
+impl Numbered for ReadFault {
+    ghost numbered = { read_number };
+
+    fn number(self) -> u8 {
         match self {
             ReadFault::Letter(_) => 1,
             ReadFault::Header(_) => 2,
@@ -45,19 +66,21 @@ impl ReadFault {
             ReadFault::End(_) => 8,
         }
     }
+}
 
+impl ReadFault {
     pub fn position(self) -> Position
         ensures { result ≡ position_of self }
     {
         match self {
-            ReadFault::Letter(at) => at,
-            ReadFault::Header(at) => at,
-            ReadFault::Count(at) => at,
-            ReadFault::Start(at) => at,
-            ReadFault::Cut(at) => at,
-            ReadFault::Bits(at) => at,
-            ReadFault::Field(at) => at,
-            ReadFault::End(at) => at,
+            ReadFault::Letter(at)
+            | ReadFault::Header(at)
+            | ReadFault::Count(at)
+            | ReadFault::Start(at)
+            | ReadFault::Cut(at)
+            | ReadFault::Bits(at)
+            | ReadFault::Field(at)
+            | ReadFault::End(at) => at,
         }
     }
 }
@@ -68,10 +91,10 @@ pub enum WriteFault {
     Place,
 }
 
-impl WriteFault {
-    pub fn number(self) -> u8
-        ensures { result ≡ write_number self }
-    {
+impl Numbered for WriteFault {
+    ghost numbered = { write_number };
+
+    fn number(self) -> u8 {
         match self {
             WriteFault::Place => 9,
         }
@@ -91,10 +114,10 @@ pub enum LogFault {
     Empty,
 }
 
-impl LogFault {
-    pub fn number(self) -> u8
-        ensures { result ≡ log_number self }
-    {
+impl Numbered for LogFault {
+    ghost numbered = { log_number };
+
+    fn number(self) -> u8 {
         match self {
             LogFault::Action => 11,
             LogFault::Width => 12,
@@ -110,12 +133,30 @@ pub enum RoomFault {
     Memory,
 }
 
-impl RoomFault {
-    pub fn number(self) -> u8
-        ensures { result ≡ room_number self }
-    {
+impl Numbered for RoomFault {
+    ghost numbered = { room_number };
+
+    fn number(self) -> u8 {
         match self {
             RoomFault::Memory => 32,
         }
     }
 }
+
+impl From<AllocError> for RoomFault {
+    ghost from_gives = { λ _ fault. fault ≡ Memory };
+
+    fn from(_error: AllocError) -> RoomFault {
+        RoomFault::Memory
+    }
+}
+
+impl fmt::Display for RoomFault {
+    ghost output = { λ _. Some (codes "no memory for a domain") };
+
+    fn fmt<W: fmt::Write>(&self, f: &mut fmt::Formatter<W>) -> fmt::Result {
+        f.write_str("no memory for a domain")
+    }
+}
+
+impl Error for RoomFault {}

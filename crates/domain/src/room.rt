@@ -21,12 +21,9 @@ impl<S: Drop, G: Drop> Room<S, G> {
         ensures wide { IfOk result (λ room. (120 ≤ vec_capacity room.actions) × (32 ≤ vec_capacity room.goals)) }
         ensures memory { IfErr result (λ fault. room_number fault ≡ 32) }
     {
-        let Ok(actions) = Vec::with_capacity(heap, 120) else {
-            return Err(RoomFault::Memory);
-        };
-        let Ok(goals) = Vec::with_capacity(heap, 32) else {
-            return Err(RoomFault::Memory);
-        };
-        Ok(Room { actions, goals })
+        Ok(Room {
+            actions: Vec::with_capacity(heap, 120)?,
+            goals: Vec::with_capacity(heap, 32)?,
+        })
     }
 }

@@ -1,6 +1,7 @@
 // Why a ranking is refused.
-ghost use Rattle.std.specs.Prelude.{◌≡◌};
 ghost use Rattle.rank.specs.Faults.{rank_number};
+
+use domain::fault::Numbered;
 
 #[derive(Clone, Copy, PartialEq, Eq, Debug)]
 pub enum RankFault {
@@ -8,10 +9,10 @@ pub enum RankFault {
     Place,
 }
 
-impl RankFault {
-    pub fn number(self) -> u8
-        ensures { result ≡ rank_number self }
-    {
+impl Numbered for RankFault {
+    ghost numbered = { rank_number };
+
+    fn number(self) -> u8 {
         match self {
             RankFault::Place => 18,
         }

@@ -1,6 +1,7 @@
 // Why a search is refused.
-ghost use Rattle.std.specs.Prelude.{◌≡◌};
 ghost use Rattle.search.specs.Faults.{search_number};
+
+use domain::fault::Numbered;
 
 #[derive(Clone, Copy, PartialEq, Eq, Debug)]
 pub enum SearchFault {
@@ -12,10 +13,10 @@ pub enum SearchFault {
     Rows,
 }
 
-impl SearchFault {
-    pub fn number(self) -> u8
-        ensures { result ≡ search_number self }
-    {
+impl Numbered for SearchFault {
+    ghost numbered = { search_number };
+
+    fn number(self) -> u8 {
         match self {
             SearchFault::Goal => 15,
             SearchFault::Tables => 16,

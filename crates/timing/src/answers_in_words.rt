@@ -2,6 +2,7 @@
 ghost use Rattle.std.specs.Prelude.{◌≡◌, IfOk, string_bytes};
 ghost use Rattle.timing.specs.Words.{cost_words, answer_words};
 
+use domain::fault::Numbered;
 use search::fault::SearchFault;
 use std::alloc::{AllocError, Global};
 

@@ -4,7 +4,7 @@ use crate::tables::Tables;
 use anyhow::anyhow;
 use cards::card::Card;
 use domain::Domain;
-use domain::fault::ReadFault;
+use domain::fault::{Numbered, ReadFault};
 use domain::room::Room;
 use maps::field_map::FieldMap;
 use std::fs;

@@ -3,7 +3,7 @@ ghost use Rattle.std.specs.Prelude.{◌≡◌};
 ghost use Rattle.watch.specs.Faults.{watch_number};
 ghost use Rattle.watch.specs.declared.fault.WatchFault.TheVariants.{Log, Search, Rank};
 
-use domain::fault::LogFault;
+use domain::fault::{LogFault, Numbered};
 use rank::fault::RankFault;
 use search::fault::SearchFault;
 
@@ -17,10 +17,10 @@ pub enum WatchFault {
     Rank(RankFault),
 }
 
-impl WatchFault {
-    pub fn number(self) -> u8
-        ensures { result ≡ watch_number self }
-    {
+impl Numbered for WatchFault {
+    ghost numbered = { watch_number };
+
+    fn number(self) -> u8 {
         match self {
             WatchFault::Log(fault) => fault.number(),
             WatchFault::Search(fault) => fault.number(),

@@ -13,6 +13,7 @@ use crate::fault::WatchFault;
 use crate::report::Report;
 use crate::watch::Watch;
 use domain::Domain;
+use domain::fault::Numbered;
 use search::entry::Entry;
 use table::row::Row;
 
