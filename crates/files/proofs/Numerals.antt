@@ -1,9 +1,10 @@
 -- Laws of numbers as bytes.
-use Rattle.std.proofs.Common.{◌≡◌, ℕ, zero, suc, ◌+◌, ◌-◌, ◌*◌, ◌/◌, ◌%◌, ◌^◌, ◌<◌, ◌≤◌, eqb, List, [], ◌∷◌, length, get_or, drop, Decides, sym, refl, ap, ◌∙◌, pow-suc, zero-mul, arith, w8, Fits}
-use native.Mathlib.Nat.{div-eq_of_lt}
+use Rattle.std.proofs.Common.{◌≡◌, ℕ, zero, suc, ◌+◌, ◌*◌, ◌/◌, ◌%◌, ◌^◌, ◌<◌, ◌≤◌, eqb, List, [], ◌∷◌, ◌++◌, length, get_or, take, drop, Decides, sym, refl, ap, ◌∙◌, pow-suc, zero-mul, div-one, arith, w8, w64, Fits}
+use native.Mathlib.Nat.{div-eq_of_lt, div-div-eq-div-mul}
+use Rattle.std.specs.Int.{byte_at, byte_worth, bytes_low_first, sum_through, to_le_bytes, from_le_bytes}
 use Rattle.std.proofs.lemmas.Nat.{shr_split, mod_below, pow_pos}
 use Rattle.std.proofs.ByRecursion.{All-from_get_or}
-use Rattle.std.proofs.lemmas.List.{drop_more}
+use Rattle.std.proofs.lemmas.List.{take_all}
 use Rattle.std.proofs.lemmas.Bool.{eqb-true, eq-eqb}
 use Rattle.files.specs.Numbers.{Bytes, little, spelled}
 
@@ -11,26 +12,37 @@ use Rattle.files.specs.Numbers.{Bytes, little, spelled}
 pub bytes_typed : (bs : List ℕ) → ((k : ℕ) → Fits w8 (get_or bs k 0)) → Bytes bs
 bytes_typed bs h = All-from_get_or (λ b. b < 256) bs 0 (λ k _. omega (arith, h k))
 
-power_pos : (n : ℕ) → 0 < 256 ^ n
-power_pos zero = omega arith
-power_pos (suc n) = omega (arith, power_pos n, pow-suc 256 n)
+-- Reading: the lowest k bytes, one byte after another, and zeros above them.
+take_little : (bs : List ℕ) (k : ℕ) → little (take (suc k) bs) ≡ little (take k bs) + get_or bs k 0 * 256 ^ k
+take_little [] zero = refl
+take_little [] (suc k) = omega arith
+take_little (b ∷ bs) zero = omega arith
+take_little (b ∷ bs) (suc k) =
+    let worth : get_or bs k 0 * 256 ^ suc k ≡ get_or bs k 0 * (256 ^ k * 256) = ap (λ n. get_or bs k 0 * n) (pow-suc 256 k) in
+    omega (arith, take_little bs k, worth)
 
-pub little_below : (bs : List ℕ) (n : ℕ) → Bytes bs → length bs ≤ n → little bs < 256 ^ n
-little_below [] n h l = power_pos n
-little_below (b ∷ bs) zero h l = absurd (omega arith)
-little_below (b ∷ bs) (suc n) h l =
-    let below : little bs < 256 ^ n = little_below bs n h.1 (omega arith) in
-    let byte : b < 256 = h.0 in
-    omega (arith, pow-suc 256 n)
+worth : (k b : ℕ) → byte_worth k b ≡ b * 256 ^ k
+worth zero b = omega arith
+worth (suc k) b = refl
 
--- one byte more at the front
-pub little_front : (bs : List ℕ) (i : ℕ) → 0 < i → i ≤ length bs → little (drop i bs) * 256 + get_or bs (i - 1) 0 ≡ little (drop (i - 1) bs)
-little_front bs i p l =
-    let e : i - 1 + 1 ≡ i = omega arith in
-    let d : drop (i - 1) bs ≡ get_or bs (i - 1) 0 ∷ drop (i - 1 + 1) bs = drop_more bs (i - 1) 0 (omega arith) in
-    let s : little (drop (i - 1) bs) ≡ get_or bs (i - 1) 0 + 256 * little (drop (i - 1 + 1) bs) = ap little d in
-    let t : little (drop (i - 1 + 1) bs) ≡ little (drop i bs) = ap (λ n. little (drop n bs)) e in
-    omega arith
+sum_little : (bs : List ℕ) (k : ℕ) → sum_through (λ i. byte_worth i (get_or bs i 0)) k ≡ little (take (suc k) bs)
+sum_little bs zero = omega (arith, take_little bs 0)
+sum_little bs (suc k) = omega (arith, sum_little bs k, take_little bs (suc k))
+
+little_append : (bs zs : List ℕ) → little zs ≡ 0 → little (bs ++ zs) ≡ little bs
+little_append [] zs z = z
+little_append (b ∷ bs) zs z = ap (λ n. b + 256 * n) (little_append bs zs z)
+
+little_drop : (n : ℕ) (zs : List ℕ) → little zs ≡ 0 → little (drop n zs) ≡ 0
+little_drop zero zs z = z
+little_drop (suc n) [] z = refl
+little_drop (suc n) (x ∷ zs) z = little_drop n zs (omega arith)
+
+pub little_read : (bs zs : List ℕ) (n : ℕ) → little zs ≡ 0 → length (bs ++ drop n zs) ≡ 8 → from_le_bytes w64 (bs ++ drop n zs) ≡ little bs
+little_read bs zs n z l =
+    sum_little (bs ++ drop n zs) 7
+    ∙ ap little (take_all 8 (bs ++ drop n zs) (omega arith))
+    ∙ little_append bs (drop n zs) (little_drop n zs z)
 
 pub length_spelled : (n v : ℕ) → length (spelled n v) ≡ n
 length_spelled zero v = refl
@@ -50,6 +62,28 @@ spelled_little (b ∷ bs) h =
     let low : (b + 256 * little bs) % 256 ≡ b = omega arith in
     let high : (b + 256 * little bs) / 256 ≡ little bs = omega arith in
     ap (λ x. x ∷ spelled (length bs) ((b + 256 * little bs) / 256)) low ∙ ap (λ x. b ∷ spelled (length bs) x) high ∙ ap (λ t. b ∷ t) (spelled_little bs h.1)
+
+-- Writing: the lowest bytes.
+pub high_next : (v i : ℕ) → v / 256 ^ i / 256 ≡ v / 256 ^ suc i
+high_next v i = div-div-eq-div-mul v (256 ^ i) 256 ∙ ap (λ n. v / n) (sym (pow-suc 256 i))
+
+byte_spelled : (i v : ℕ) → byte_at i v ≡ v / 256 ^ i % 256
+byte_spelled zero v = ap (λ n. n % 256) (sym (div-one v))
+byte_spelled (suc i) v = refl
+
+low_spelled : (n i v : ℕ) → bytes_low_first i n v ≡ spelled n (v / 256 ^ i)
+low_spelled zero i v = refl
+low_spelled (suc n) i v =
+    ap (λ b. b ∷ bytes_low_first (suc i) n v) (byte_spelled i v)
+    ∙ ap (λ t. v / 256 ^ i % 256 ∷ t) (low_spelled n (suc i) v ∙ ap (spelled n) (sym (high_next v i)))
+
+take_spelled : (n m v : ℕ) → n ≤ m → take n (spelled m v) ≡ spelled n v
+take_spelled zero m v h = refl
+take_spelled (suc n) zero v h = absurd (omega arith)
+take_spelled (suc n) (suc m) v h = ap (λ t. v % 256 ∷ t) (take_spelled n m (v / 256) (omega arith))
+
+pub spelled_written : (n v : ℕ) → n ≤ 8 → take n (to_le_bytes w64 v) ≡ spelled n v
+spelled_written n v h = ap (take n) (low_spelled 8 0 v ∙ ap (spelled 8) (div-one v)) ∙ take_spelled n 8 v h
 
 -- a number takes k bits exactly when nothing is left above them
 pub no_high_bits : (v k h : ℕ) → h ≡ v / 2 ^ k → Decides (eqb h 0) (v < 2 ^ k)

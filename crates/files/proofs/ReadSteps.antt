@@ -1,5 +1,5 @@
 -- Steps of the loops that read.
-use Rattle.std.proofs.Common.{◌≡◌, ℕ, suc, ◌+◌, ◌-◌, ◌/◌, ◌<◌, ◌≤◌, Bool, true, false, cond, List, [], ◌∷◌, ◌++◌, length, get_or, drop, Ok, Err, Result, sym, refl, ap, ◌∙◌, append_assoc, add-zero, add_assoc, arith}
+use Rattle.std.proofs.Common.{◌≡◌, ℕ, suc, ◌+◌, ◌-◌, ◌*◌, ◌/◌, ◌<◌, ◌≤◌, Bool, true, false, cond, List, [], ◌∷◌, ◌++◌, length, get_or, drop, Ok, Err, Result, sym, refl, ap, ◌∙◌, append_assoc, add-zero, arith}
 use Rattle.std.proofs.lemmas.List.{at_drop_more, at_drop_all, append-nil}
 use Rattle.domain.specs.declared.fault.ReadFault.{ReadFault}
 use Rattle.files.specs.declared.field.Field.{Field}
@@ -62,13 +62,17 @@ bytes_few Set = omega arith
 bytes_few Place = omega arith
 bytes_few Cost = omega arith
 
+pub size_few : (m : ℕ) (fs : List Field) → size_of m fs ≤ 7 * length fs
+size_few m [] = omega arith
+size_few m (f ∷ fs) = grind (arith, bytes_few, size_few (m / 2) fs)
+
 -- the byte after a field
 pub field_next : (bs : List ℕ) (size r at : ℕ) (f : Field) (b : Bool) (x : ℕ × ℕ) → read_field bs size r at f b ≡ Ok x → x.1 ≡ at + cond b (bytes_of f) 0
 field_next bs size r at f true x e = sym (ap (λ p. p.1) (ok_same _ x (passed _ _ _ x e).1))
 field_next bs size r at f false x e = sym (ap (λ p. p.1) (ok_same _ x e)) ∙ sym (add-zero at)
 
--- The records of a part, of which there are n, the first being number r.
-module _ {X : Type 0} (make : Entry → X) (k : Kind) (p : Part) (size : ℕ) (bs : List ℕ) (n r : ℕ) where
+-- The records of a part.
+module _ {X : Type 0} (make : Entry → X) (k : Kind) (p : Part) (size : ℕ) (bs : List ℕ) where
   parts_first : (e : Entry) (r : Result (List Entry × ℕ) ReadFault) → parts_with make (with_first e r) ≡ with_first (make e) (parts_with make r)
   parts_first e (Ok y) = refl
   parts_first e (Err f) = refl
@@ -77,33 +81,29 @@ module _ {X : Type 0} (make : Entry → X) (k : Kind) (p : Part) (size : ℕ) (b
   parts_then (Ok x) rest = parts_first x.0 (rest x.1)
   parts_then (Err f) rest = refl
 
-  pub parts_none : (at : ℕ) (xs : List X) → xs ≡ [] → parts_with make (read_records k p size bs n r at) ≡ prefixed xs (parts_with make (read_records k p size bs (n - 0) (r + 0) at))
-  parts_none at xs e =
+  pub parts_none : (n r at : ℕ) (xs : List X) → xs ≡ [] → parts_with make (read_records k p size bs n r at) ≡ prefixed xs (parts_with make (read_records k p size bs (n - 0) r at))
+  parts_none n r at xs e =
       let whole : n ≡ n - 0 = omega arith in
-      let same : r ≡ r + 0 = omega arith in
-      ap (λ m. parts_with make (read_records k p size bs m r at)) whole
-      ∙ ap (λ m. parts_with make (read_records k p size bs (n - 0) m at)) same
-      ∙ prefixed_none xs _ e
+      ap (λ m. parts_with make (read_records k p size bs m r at)) whole ∙ prefixed_none xs _ e
 
-  -- what was read before is xs, and the i-th record stands at a byte
-  module _ (i at : ℕ) (xs : List X) where
+  -- what was read before is xs, the i-th of n records stands next, and it is number r of the file
+  module _ (n i r at : ℕ) (xs : List X) where
     abbrev RestOf : Result (List X × ℕ) ReadFault
-    RestOf = prefixed xs (parts_with make (read_records k p size bs (n - i) (r + i) at))
+    RestOf = prefixed xs (parts_with make (read_records k p size bs (n - i) r at))
 
-    parts_more : i < n → RestOf ≡ prefixed xs (then (part_with make (read_record k p size bs (r + i) at)) (λ x. with_first x.0 (parts_with make (read_records k p size bs (n - (i + 1)) (r + (i + 1)) x.1))))
+    parts_more : i < n → RestOf ≡ prefixed xs (then (part_with make (read_record k p size bs r at)) (λ x. with_first x.0 (parts_with make (read_records k p size bs (n - (i + 1)) (r + 1) x.1))))
     parts_more h =
         let e : n - i ≡ suc (n - (i + 1)) = omega arith in
-        ap (λ m. prefixed xs (parts_with make (read_records k p size bs m (r + i) at))) e
-        ∙ ap (prefixed xs) (parts_then (read_record k p size bs (r + i) at) (read_records k p size bs (n - (i + 1)) (r + i + 1)))
-        ∙ ap (λ m. prefixed xs (then (part_with make (read_record k p size bs (r + i) at)) (λ x. with_first x.0 (parts_with make (read_records k p size bs (n - (i + 1)) m x.1))))) (add_assoc r i 1)
+        ap (λ m. prefixed xs (parts_with make (read_records k p size bs m r at))) e
+        ∙ ap (prefixed xs) (parts_then (read_record k p size bs r at) (read_records k p size bs (n - (i + 1)) (r + 1)))
 
-    pub parts_ok : (x : X) (next : ℕ) → i < n → part_with make (read_record k p size bs (r + i) at) ≡ Ok (x, next) → RestOf ≡ prefixed (xs ++ (x ∷ [])) (parts_with make (read_records k p size bs (n - (i + 1)) (r + (i + 1)) next))
+    pub parts_ok : (x : X) (next : ℕ) → i < n → part_with make (read_record k p size bs r at) ≡ Ok (x, next) → RestOf ≡ prefixed (xs ++ (x ∷ [])) (parts_with make (read_records k p size bs (n - (i + 1)) (r + 1) next))
     parts_ok x next h e = parts_more h ∙ turn_ok xs _ _ _ (x, next) e
 
-    pub parts_err : (f : ReadFault) → i < n → part_with make (read_record k p size bs (r + i) at) ≡ Err f → RestOf ≡ Err f
+    pub parts_err : (f : ReadFault) → i < n → part_with make (read_record k p size bs r at) ≡ Err f → RestOf ≡ Err f
     parts_err f h e = parts_more h ∙ turn_err xs _ _ _ f e
 
     pub parts_all : n ≤ i → RestOf ≡ Ok (xs, at)
     parts_all h =
         let e : n - i ≡ 0 = omega arith in
-        ap (λ m. prefixed xs (parts_with make (read_records k p size bs m (r + i) at))) e ∙ ap (λ l. Ok (l, at)) (append-nil xs)
+        ap (λ m. prefixed xs (parts_with make (read_records k p size bs m r at))) e ∙ ap (λ l. Ok (l, at)) (append-nil xs)

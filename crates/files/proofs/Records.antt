@@ -1,6 +1,7 @@
 -- Records of a file: what is read is what was written.
 use Rattle.std.proofs.Common.{◌≡◌, ℕ, zero, suc, ◌+◌, ◌-◌, ◌*◌, ◌^◌, ◌<◌, ◌≤◌, Bool, true, false, ◌&&◌, ltb, leb, List, [], ◌∷◌, ◌++◌, length, get_or, drop, Ok, Err, Result, sym, refl, ap, ◌∙◌, subst, append_assoc, add-zero, pow-suc, arith}
 use native.Mathlib.Nat.{pow-le-pow_right}
+use Rattle.std.specs.Int.{from_bool}
 use Rattle.std.specs.List.{flat_map, AllByRecursion}
 use Rattle.std.proofs.lemmas.List.{drop_more, drop-drop, length-drop, length-append, get_or-drop}
 use Rattle.std.proofs.lemmas.Bool.{ltb-true, lt-ltb, leb-true, le-leb, cond-true}
@@ -20,6 +21,14 @@ use Rattle.files.proofs.Outcomes.{ok_same, ok_or_err, passed, then_ok, first_ok}
 pub bit_low : (b : Bool) → bit b ≤ 1
 bit_low true = omega arith
 bit_low false = omega arith
+
+pub bit_times : (b : Bool) (n : ℕ) → bit b * n ≤ n
+bit_times true n = omega arith
+bit_times false n = omega arith
+
+pub bit_from : (b : Bool) → from_bool b ≡ bit b
+bit_from true = refl
+bit_from false = refl
 
 -- a defined bit map has nothing above the fields' bits but the mark's
 bit_of : (n : ℕ) → n < 2 → n ≡ bit (is_odd n)

@@ -1,67 +1,84 @@
--- Steps of the loops that write.
-use Rattle.std.proofs.Common.{◌≡◌, ℕ, zero, suc, ◌+◌, ◌-◌, ◌*◌, ◌/◌, ◌%◌, ◌^◌, ◌<◌, ◌≤◌, Bool, true, false, cond, leb, List, [], ◌∷◌, ◌++◌, map, length, get_or, take, drop, set, is_some, Some, None, Ok, sym, refl, ap, ◌∙◌, subst, append_assoc, add-zero, mul_comm, pow-suc, div-one, add-one, arith}
-use native.Mathlib.Nat.{pow-le-pow_right, div-div-eq-div-mul}
-use Rattle.std.proofs.lemmas.List.{take_more_set, drop-set-lt, drop-drop, drop_more, get_or-drop, length-append, length-drop, length-map, append-nil, append_cancel_right, take-append-drop, take_more, take_all, get_or-map}
-use Rattle.std.proofs.lemmas.Bool.{le-leb, lt-leb, leb-true, leb-false, cond-true, cond-false}
-use Rattle.std.proofs.lemmas.Bool.Decides.{nat_tests}
+-- Steps of the functions that write.
+use Rattle.std.proofs.Common.{◌≡◌, ℕ, ◌+◌, ◌-◌, ◌*◌, ◌%◌, ◌^◌, ◌<◌, ◌≤◌, Bool, true, false, not, List, [], ◌∷◌, ◌++◌, map, length, get_or, take, drop, set, Some, None, Option, is_some, SomeIff, Ok, Err, sym, refl, ap, ◌∙◌, subst, append_assoc, add-zero, arith}
+use native.Mathlib.Nat.{pow-le-pow_right}
+use Rattle.std.proofs.lemmas.List.{at_drop_more, drop_all, take_at, drop_at, length-take-le, drop-drop, drop_more, get_or-drop, length-append, length-drop, length-map, append-nil, take-append-drop, take_all}
+use Rattle.std.proofs.lemmas.List.Folds.{flat_map-map}
+use Rattle.std.proofs.lemmas.Bool.{le-leb, lt-leb, cond-true, cond-false}
 use Rattle.std.specs.List.{flat_map}
+use borrow.Rule.Slice.PartMut.{put_mid}
+use Rattle.domain.specs.declared.fault.WriteFault.TheVariants.{Place}
 use Rattle.files.specs.declared.field.Field.{Field}
 use Rattle.files.specs.declared.field.Field.TheVariants.{Set}
-use Rattle.files.specs.Contents.{RawFile, is_written, bit_map, field_bytes, all_field_bytes, record_bytes, header_bytes, file_bytes}
 use Rattle.files.specs.declared.kind.Kind.{Kind}
 use Rattle.files.specs.declared.kind.Kind.TheVariants.{Card, Map}
 use Rattle.files.specs.declared.kind.Part.{Part}
 use Rattle.files.specs.declared.kind.Part.TheVariants.{Action, Goal}
-use Rattle.files.specs.Formats.{bytes_of, start_of, header_length, fields_of, bit}
-use Rattle.files.specs.Numbers.{spelled}
-use Rattle.files.specs.Writing.{Wrote, write_outcome, place_after, room_after}
+use Rattle.files.specs.declared.layout.Layout.{Layout}
+use Rattle.files.specs.Contents.{Entry, mark_bit, is_written, bit_map, field_bytes, all_field_bytes, record_bytes, header_bytes, file_bytes}
+use Rattle.files.specs.Formats.{bytes_of, start_of, header_length, fields_of, is_markable, bit, bit_count}
+use Rattle.files.specs.Writing.{Wrote, write_outcome, place_after, raw_of, records_of, file_length}
 use Rattle.files.proofs.Numerals.{length_spelled}
-use Rattle.files.proofs.Records.{map_below}
-
-pub wrote_none : (at : ℕ) (place : List ℕ) → Wrote [] at place place at
-wrote_none at place = record { end = sym (add-zero at); front = sym (append-nil (take at place)); back = refl }
-
-pub wrote_byte : (at b : ℕ) (place : List ℕ) → at < length place → Wrote (b ∷ []) at place (set place at b) (at + 1)
-wrote_byte at b place h = record { end = refl; front = take_more_set place at b h; back = drop-set-lt (at + 1) place at b (omega arith) }
-
--- one part after another
-pub wrote_then : (xs ys : List ℕ) (at mid next : ℕ) (p q r : List ℕ) → Wrote xs at p q mid → Wrote ys mid q r next → Wrote (xs ++ ys) at p r next
-wrote_then xs ys at mid next p q r one two = record {
-  end = omega (arith, one.end, two.end, length-append xs ys);
-  front = two.front ∙ ap (λ t. t ++ ys) one.front ∙ append_assoc (take at p) xs ys;
-  back = two.back ∙ after q ∙ ap (drop (length ys)) one.back ∙ sym (after p);
-}
-  where
-    after : (s : List ℕ) → drop next s ≡ drop (length ys) (drop mid s)
-    after s = ap (λ n. drop n s) two.end ∙ sym (drop-drop (length ys) mid s)
+use Rattle.files.proofs.Records.{bit_low, map_defined}
 
 -- bytes that are known by another name
-pub wrote_as : (xs ys : List ℕ) (at next : ℕ) (p q : List ℕ) → xs ≡ ys → Wrote xs at p q next → Wrote ys at p q next
-wrote_as xs ys at next p q e w = subst (λ bs. Wrote bs at p q next) e w
+pub wrote_as : (xs ys p q : List ℕ) (n : ℕ) → xs ≡ ys → Wrote xs p q n → Wrote ys p q n
+wrote_as xs ys p q n e w = subst (λ bs. Wrote bs p q n) e w
 
--- a number, byte by byte
-high_more : (v i : ℕ) → v / 256 / 256 ^ i ≡ v / 256 ^ suc i
-high_more v i = div-div-eq-div-mul v 256 (256 ^ i) ∙ ap (λ n. v / n) (mul_comm 256 (256 ^ i) ∙ sym (pow-suc 256 i))
+-- A place that some of the bytes were written into, so that others are to come.
+pub record Begun (bytes rest before after : List ℕ) (count : ℕ) : Type 0 where
+  pub front : take count after ++ rest ≡ bytes
+  pub back : drop count after ≡ drop count before
+  pub inside : count ≤ length after
 
-spelled_suc : (i v : ℕ) → spelled (suc i) v ≡ spelled i v ++ (v / 256 ^ i % 256 ∷ [])
-spelled_suc zero v = ap (λ n. n % 256 ∷ []) (sym (div-one v))
-spelled_suc (suc i) v = ap (λ t. v % 256 ∷ t) (spelled_suc i (v / 256) ∙ ap (λ n. spelled i (v / 256) ++ (n % 256 ∷ [])) (high_more v i))
+pub begun_none : (bytes place : List ℕ) → Begun bytes bytes place place 0
+begun_none bytes place = record { front = refl; back = refl; inside = omega arith }
 
-pub spelled_more : (i v : ℕ) → spelled (i + 1) v ≡ spelled i v ++ (v / 256 ^ i % 256 ∷ [])
-spelled_more i v = ap (λ n. spelled n v) (add-one i) ∙ spelled_suc i v
+pub begun_first : (bytes xs ys p q : List ℕ) (n : ℕ) → xs ++ ys ≡ bytes → Wrote xs p q n → Begun bytes ys p q n
+begun_first bytes xs ys p q n e w =
+    let place = drop n p in
+    record {
+      front = ap (λ t. take n t ++ ys) w.place_is ∙ ap (λ t. t ++ ys) (take_at xs place n (sym w.count_is)) ∙ e;
+      back = ap (drop n) w.place_is ∙ drop_at xs place n (sym w.count_is);
+      inside = omega (arith, w.count_is, ap length w.place_is, length-append xs place);
+    }
 
-pub high_next : (v i : ℕ) → v / 256 ^ i / 256 ≡ v / 256 ^ (i + 1)
-high_next v i = div-div-eq-div-mul v (256 ^ i) 256 ∙ ap (λ n. v / n) (sym (ap (λ n. 256 ^ n) (add-one i) ∙ pow-suc 256 i))
+-- what comes next goes behind what was written
+module _ (bytes xs ys p q : List ℕ) (m : ℕ) (b : Begun bytes (xs ++ ys) p q m) where
+  behind : take (length q - m) (drop m q) ≡ drop m q
+  behind = take_all (length q - m) (drop m q) (omega (arith, length-drop m q))
 
--- the fields below the i-th, and the others
-pub fields_split : (fs : List Field) (vs : List ℕ) (i : ℕ) → all_field_bytes fs vs ≡ all_field_bytes (take i fs) vs ++ all_field_bytes (drop i fs) (drop i vs)
-fields_split fs vs zero = refl
-fields_split [] vs (suc i) = refl
-fields_split (f ∷ fs) vs (suc i) =
-    let next : 1 + i ≡ suc i = omega arith in
-    let one : drop i (drop 1 vs) ≡ drop (suc i) vs = drop-drop i 1 vs ∙ ap (λ n. drop n vs) next in
-    ap (λ t. field_bytes f (get_or vs 0 0) ++ t) (fields_split fs (drop 1 vs) i ∙ ap (λ us. all_field_bytes (take i fs) (drop 1 vs) ++ all_field_bytes (drop i fs) us) one)
-    ∙ sym (append_assoc (field_bytes f (get_or vs 0 0)) (all_field_bytes (take i fs) (drop 1 vs)) (all_field_bytes (drop i fs) (drop (suc i) vs)))
+  long : length (take m q) ≡ m
+  long = length-take-le m q b.inside
+
+  pub begun_fits : length bytes ≤ length p → length q ≡ length p → length xs ≤ length (take (length q - m) (drop m q))
+  begun_fits h l = omega (arith, ap length behind, long, ap length b.front, length-append (take m q) (xs ++ ys), length-append xs ys, length-drop m q)
+
+  pub begun_more : (r : List ℕ) (n : ℕ) → Wrote xs (take (length q - m) (drop m q)) r n → Begun bytes ys p (put_mid m (length q - m) q r) (m + n)
+  begun_more r n w =
+      let front = take m q ++ xs in
+      let back = drop n (drop m q) in
+      let end : length front ≡ m + n = omega (arith, long, w.count_is, length-append (take m q) xs) in
+      let none : r ++ drop (length q - m) (drop m q) ≡ r = ap (λ t. r ++ t) (drop_all (length q - m) (drop m q) (omega (arith, length-drop m q))) ∙ append-nil r in
+      let part : r ≡ xs ++ back = w.place_is ∙ ap (λ t. xs ++ drop n t) behind in
+      let place : put_mid m (length q - m) q r ≡ front ++ back = ap (λ t. take m q ++ t) (none ∙ part) ∙ sym (append_assoc (take m q) xs back) in
+      record {
+        front = ap (λ t. take (m + n) t ++ ys) place ∙ ap (λ t. t ++ ys) (take_at front back (m + n) end) ∙ append_assoc (take m q) xs ys ∙ b.front;
+        back = ap (drop (m + n)) place ∙ drop_at front back (m + n) end ∙ ap (drop n) b.back ∙ drop-drop n m p;
+        inside = omega (arith, ap length place, length-append front back);
+      }
+
+pub begun_all : (bytes p q : List ℕ) (m : ℕ) → Begun bytes [] p q m → Wrote bytes p q m
+begun_all bytes p q m b =
+    let whole : take m q ≡ bytes = sym (append-nil (take m q)) ∙ b.front in
+    record {
+      count_is = omega (arith, ap length whole, length-take-le m q b.inside);
+      place_is = sym (take-append-drop m q) ∙ ap (λ t. t ++ drop m q) whole ∙ ap (λ t. bytes ++ t) b.back;
+    }
+
+-- one byte at the front
+pub wrote_byte : (b : ℕ) (place : List ℕ) → 0 < length place → Wrote (b ∷ []) place (set place 0 b) 1
+wrote_byte b [] h = absurd (omega arith)
+wrote_byte b (x ∷ xs) h = record { count_is = refl; place_is = refl }
 
 -- the i-th field stands first among the others
 module _ (fs : List Field) (vs : List ℕ) (i : ℕ) (h : i < length fs) where
@@ -83,10 +100,6 @@ module _ (fs : List Field) (vs : List ℕ) (i : ℕ) (h : i < length fs) where
       ∙ ap (λ v. bit (is_written (get_or fs i Set) v) + 2 * bit_map (drop (i + 1) fs) (drop 1 (drop i vs)) top) first_value
       ∙ ap (λ us. bit (is_written (get_or fs i Set) (get_or vs i 0)) + 2 * bit_map (drop (i + 1) fs) us top) other_values
 
-  pub fields_more : all_field_bytes (take (i + 1) fs) vs ≡ all_field_bytes (take i fs) vs ++ field_bytes (get_or fs i Set) (get_or vs i 0)
-  fields_more = append_cancel_right _ _ (all_field_bytes (drop (i + 1) fs) (drop (i + 1) vs))
-      (sym (fields_split fs vs (i + 1)) ∙ fields_split fs vs i ∙ ap (λ t. all_field_bytes (take i fs) vs ++ t) fields_first ∙ sym (append_assoc (all_field_bytes (take i fs) vs) (field_bytes (get_or fs i Set) (get_or vs i 0)) (all_field_bytes (drop (i + 1) fs) (drop (i + 1) vs))))
-
 pub fields_few : (k : Kind) (p : Part) → length (fields_of k p) ≤ 4
 fields_few Card Action = omega arith
 fields_few Card Goal = omega arith
@@ -94,96 +107,74 @@ fields_few Map Action = omega arith
 fields_few Map Goal = omega arith
 
 -- a bit map takes one byte
-pub map_byte : (fs : List Field) (vs : List ℕ) (i top : ℕ) → length fs ≤ 4 → top ≤ 1 → bit_map (drop i fs) (drop i vs) top < 64
-map_byte fs vs i top few low =
-    let low : top < 2 ^ 1 = omega arith in
-    let narrow : 2 ^ (length (drop i fs) + 1) ≤ 2 ^ 5 = pow-le-pow_right {n = 2} (omega arith) {i = length (drop i fs) + 1} {j = 5} (omega (arith, length-drop i fs)) in
-    omega (arith, map_below (drop i fs) (drop i vs) top 1 low)
+pub map_byte : (k : Kind) (p : Part) (e : Entry) → bit_map (fields_of k p) e.values (mark_bit p e) < 64
+map_byte k p e =
+    let narrow : 2 ^ bit_count k p ≤ 2 ^ 5 = pow-le-pow_right {n = 2} (omega arith) {i = bit_count k p} {j = 5} (omega (arith, fields_few k p, bit_low (is_markable p))) in
+    omega (arith, map_defined k p e)
 
--- the records of items, one after another
-module _ {X : Type 0} (f : X → List ℕ) where
-  joined_append : (xs ys : List X) → flat_map f (xs ++ ys) ≡ flat_map f xs ++ flat_map f ys
-  joined_append [] ys = refl
-  joined_append (x ∷ xs) ys = ap (λ t. f x ++ t) (joined_append xs ys) ∙ sym (append_assoc (f x) (flat_map f xs) (flat_map f ys))
+-- the fields from the i-th on, and the records of the items from the i-th on
+pub fields_next : (fs : List Field) (vs : List ℕ) (i v : ℕ) (bytes p q : List ℕ) (m : ℕ) → i < length fs → v ≡ get_or vs i 0
+    → Begun bytes (all_field_bytes (drop i fs) (drop i vs)) p q m → Begun bytes (field_bytes (get_or fs i Set) v ++ all_field_bytes (drop (i + 1) fs) (drop (i + 1) vs)) p q m
+fields_next fs vs i v bytes p q m h e = subst (λ rest. Begun bytes rest p q m) (fields_first fs vs i h ∙ ap (λ v. field_bytes (get_or fs i Set) v ++ all_field_bytes (drop (i + 1) fs) (drop (i + 1) vs)) (sym e))
 
-  pub joined_split : (xs : List X) (i : ℕ) → flat_map f xs ≡ flat_map f (take i xs) ++ flat_map f (drop i xs)
-  joined_split xs i = ap (flat_map f) (sym (take-append-drop i xs)) ∙ joined_append (take i xs) (drop i xs)
+module _ {X : Type 0} (l : Layout) (written : X → Entry) (xs : List X) (i : ℕ) (x : X) (h : i < length xs) (is : x ≡ get_or xs i x) where
+  items_first : records_of l written (drop i xs) ≡ record_bytes l.kind l.part (written x) ++ records_of l written (drop (i + 1) xs)
+  items_first = at_drop_more (records_of l written) xs i x h ∙ ap (λ y. record_bytes l.kind l.part (written y) ++ records_of l written (drop (i + 1) xs)) (sym is)
 
-  module _ (xs : List X) (i : ℕ) (x : X) (h : i < length xs) (is : x ≡ get_or xs i x) where
-    pub joined_next : flat_map f (take (i + 1) xs) ≡ flat_map f (take i xs) ++ f x
-    joined_next =
-        ap (flat_map f) (take_more xs i x h)
-        ∙ joined_append (take i xs) (get_or xs i x ∷ [])
-        ∙ ap (λ y. flat_map f (take i xs) ++ (f y ++ [])) (sym is)
-        ∙ ap (λ t. flat_map f (take i xs) ++ t) (append-nil (f x))
+  pub items_long : length (records_of l written (drop i xs)) ≡ length (record_bytes l.kind l.part (written x)) + length (records_of l written (drop (i + 1) xs))
+  items_long = ap length items_first ∙ length-append (record_bytes l.kind l.part (written x)) (records_of l written (drop (i + 1) xs))
 
-    -- so it fits where all of them do
-    pub joined_fits : length (flat_map f (take i xs)) + length (f x) ≤ length (flat_map f xs)
-    joined_fits =
-        let all : length (flat_map f xs) ≡ length (flat_map f (take i xs)) + length (flat_map f (drop i xs)) = ap length (joined_split xs i) ∙ length-append (flat_map f (take i xs)) (flat_map f (drop i xs)) in
-        let here : length (flat_map f (drop i xs)) ≡ length (f (get_or xs i x)) + length (flat_map f (drop (i + 1) xs)) = ap (λ t. length (flat_map f t)) (drop_more xs i x h) ∙ length-append (f (get_or xs i x)) (flat_map f (drop (i + 1) xs)) in
-        let same : length (f (get_or xs i x)) ≡ length (f x) = ap (λ y. length (f y)) (sym is) in
-        omega arith
-
-pub mapped_at : {X Y : Type 0} (w : X → Y) (xs : List X) (i : ℕ) (x : X) → i < length xs → x ≡ get_or xs i x → w x ≡ get_or (map w xs) i (w x)
-mapped_at w xs i x h is = sym (get_or-map w xs i x (w x) h ∙ ap w (sym is))
-
-pub mapped_all : {X Y : Type 0} (w : X → Y) (xs : List X) (i : ℕ) → length xs ≤ i → take i (map w xs) ≡ map w xs
-mapped_all w xs i h = take_all i (map w xs) (omega (arith, length-map xs w))
-
--- room for bytes
-pub room_left : (bytes : List ℕ) (room left : ℕ) → left + length bytes ≡ room → Some left ≡ room_after bytes room
-room_left bytes room left e =
-    let rest : left ≡ room - length bytes = omega arith in
-    ap Some rest ∙ sym (cond-true _ _ _ (le-leb (length bytes) room (omega arith)))
-
-pub room_short : (bytes : List ℕ) (room : ℕ) → room < length bytes → None ≡ room_after bytes room
-room_short bytes room h = sym (cond-false _ _ _ (lt-leb (length bytes) room h))
-
-room_if : (b : Bool) (x y : ℕ) → cond b (Some x) None ≡ Some y → (b ≡ true) × (x ≡ y)
-room_if true x y e = (refl, cc)
-room_if false x y e = let z : ◌≡◌ {A = ℕ} 0 1 = cc in absurd (omega arith)
-
-pub room_some : (bytes : List ℕ) (room left : ℕ) → room_after bytes room ≡ Some left → left + length bytes ≡ room
-room_some bytes room left e =
-    let p = room_if (leb (length bytes) room) (room - length bytes) left e in
-    omega (arith, p.1, leb-true (length bytes) room p.0)
-
-room_none_if : (b : Bool) (x : ℕ) → cond b (Some x) None ≡ None → b ≡ false
-room_none_if true x e = let z : ◌≡◌ {A = ℕ} 0 1 = cc in absurd (omega arith)
-room_none_if false x e = refl
-
-pub room_none : (bytes : List ℕ) (room : ℕ) → room_after bytes room ≡ None → room < length bytes
-room_none bytes room e = leb-false (length bytes) room (room_none_if (leb (length bytes) room) (room - length bytes) e)
-
-some_if : (b : Bool) (x : ℕ) → is_some (cond b (Some x) None) ≡ b
-some_if true x = refl
-some_if false x = refl
-
-pub room_is : (bytes : List ℕ) (room : ℕ) → is_some (room_after bytes room) ≡ leb (length bytes) room
-room_is bytes room = some_if (leb (length bytes) room) (room - length bytes)
-
-pub leb_shift : (a b left room : ℕ) → left + a ≡ room → leb b left ≡ leb (a + b) room
-leb_shift a b left room e = grind (arith, nat_tests)
+  pub items_next : (bytes p q : List ℕ) (m : ℕ) → Begun bytes (records_of l written (drop i xs)) p q m → Begun bytes (record_bytes l.kind l.part (written x) ++ records_of l written (drop (i + 1) xs)) p q m
+  items_next bytes p q m = subst (λ rest. Begun bytes rest p q m) items_first
 
 pub header_long : (k : Kind) (size actions goals start : ℕ) → length (header_bytes k size actions goals start) ≡ header_length k
 header_long k size actions goals start = omega (arith, length_spelled (bytes_of (start_of k)) start)
 
-pub file_length : (k : Kind) (f : RawFile) → length (file_bytes k f) ≡ header_length k + length (flat_map (record_bytes k Action) f.actions) + length (flat_map (record_bytes k Goal) f.goals)
-file_length k f =
-    let start = spelled (bytes_of (start_of k)) f.start in
-    let xs = flat_map (record_bytes k Action) f.actions in
-    let ys = flat_map (record_bytes k Goal) f.goals in
-    omega (arith, length-append start (xs ++ ys), length-append xs ys, length_spelled (bytes_of (start_of k)) f.start)
+-- A file by its parts.
+module _ {S G : Type 0} (k : Kind) (written_s : S → Entry) (written_g : G → Entry) (size start : ℕ) (actions : List S) (goals : List G) where
+  abbrev pub header : List ℕ
+  header = header_bytes k size (length actions % 256) (length goals % 256) start
 
--- a place that all of a file was written into from its front
-pub wrote_all : (bytes place after : List ℕ) (end : ℕ) → length bytes ≤ length place → Wrote bytes 0 place after end → (Ok end ≡ write_outcome bytes place) × (after ≡ place_after bytes place)
-wrote_all bytes place after end h w =
-    let fits = le-leb (length bytes) (length place) h in
-    let long : end ≡ length bytes = omega (arith, w.end) in (
-      ap Ok long ∙ sym (cond-true _ _ _ fits),
-      sym (take-append-drop end after)
-          ∙ ap (λ t. t ++ drop end after) w.front
-          ∙ ap (λ t. bytes ++ t) (w.back ∙ ap (λ n. drop n place) long)
-          ∙ sym (cond-true _ _ _ fits),
-    )
+  abbrev pub action_records : List ℕ
+  action_records = records_of (record { kind = k; part = Action }) written_s actions
+
+  abbrev pub goal_records : List ℕ
+  goal_records = records_of (record { kind = k; part = Goal }) written_g goals
+
+  pub file_parts : header ++ (action_records ++ goal_records) ≡ file_bytes k (raw_of written_s written_g size start actions goals)
+  file_parts =
+      let counts : length actions % 256 % 256 ≡ length (map written_s actions) % 256 = omega (arith, length-map actions written_s) in
+      let others : length goals % 256 % 256 ≡ length (map written_g goals) % 256 = omega (arith, length-map goals written_g) in
+      let xs : action_records ≡ flat_map (record_bytes k Action) (map written_s actions) = sym (flat_map-map (record_bytes k Action) written_s actions) in
+      let ys : goal_records ≡ flat_map (record_bytes k Goal) (map written_g goals) = sym (flat_map-map (record_bytes k Goal) written_g goals) in
+      cc
+
+  pub file_long : length (file_bytes k (raw_of written_s written_g size start actions goals)) ≡ file_length k written_s written_g actions goals
+  file_long = omega (
+    arith,
+    ap length file_parts,
+    length-append header (action_records ++ goal_records),
+    length-append action_records goal_records,
+    header_long k size (length actions % 256) (length goals % 256) start,
+  )
+
+-- a place that all of a file was written into, and one that is too short for it
+module _ (bytes place : List ℕ) where
+  pub wrote_file : (after : List ℕ) (count : ℕ) → length bytes ≤ length place → Wrote bytes place after count → (Ok count ≡ write_outcome bytes place) × (after ≡ place_after bytes place)
+  wrote_file after count h w =
+      let fits = le-leb (length bytes) (length place) h in (
+        ap Ok w.count_is ∙ sym (cond-true _ _ _ fits),
+        w.place_is ∙ ap (λ n. bytes ++ drop n place) w.count_is ∙ sym (cond-true _ _ _ fits),
+      )
+
+  pub wrote_nothing : length place < length bytes → (Err Place ≡ write_outcome bytes place) × (place ≡ place_after bytes place)
+  wrote_nothing h = let short = lt-leb (length bytes) (length place) h in (sym (cond-false _ _ _ short), sym (cond-false _ _ _ short))
+
+-- what a test for room tells
+pub none_room : (b : Bool) (left : Option ℕ) (size room : ℕ) → SomeIff left (size ≤ room) (room - size) → is_some left ≡ not b → b ≡ true → room < size
+none_room b None size room h e t = omega arith
+none_room b (Some n) size room h e t = let z : true ≡ false = e ∙ ap not t in cc
+
+pub some_room : (b : Bool) (left : Option ℕ) (size room : ℕ) → SomeIff left (size ≤ room) (room - size) → is_some left ≡ not b → b ≡ false → size ≤ room
+some_room b None size room h e t = let z : false ≡ true = e ∙ ap not t in cc
+some_room b (Some n) size room h e t = h.0

@@ -68,11 +68,6 @@ read_record k p size bs r at =
     (Err (fault.Bits (position r at))))
     (Err (fault.Cut (position r (length bs))))
 
--- values that stand in a place of their own, made an entry with the mark that was read
-abbrev pub entry_with : List ℕ → Result (Bool × ℕ) ReadFault → Result (Entry × ℕ) ReadFault
-entry_with vs (Ok y) = Ok (record { values = vs; marked = y.0 }, y.1)
-entry_with vs (Err e) = Err e
-
 -- n records, of which r is the first: what they hold, and the byte after them
 abbrev pub read_records : Kind → Part → ℕ → List ℕ → ℕ → ℕ → ℕ → Result (List Entry × ℕ) ReadFault
 read_records k p size bs zero r at = Ok ([], at)
@@ -81,6 +76,10 @@ read_records k p size bs (suc n) r at = then (read_record k p size bs r at) (λ 
 -- from 1 to the most that there may be
 abbrev pub is_count : ℕ → ℕ → Bool
 is_count most n = nat_le 1 n && nat_le n most
+
+-- a count that stands at a byte
+abbrev pub read_count : List ℕ → ℕ → ℕ → Result ℕ ReadFault
+read_count bs at most = cond (is_count most (slice_index bs at)) (Ok (slice_index bs at)) (Err (fault.Count (position 0 at)))
 
 -- the header: its letter is right, it is whole, its counts are within limits, and the start is a state
 abbrev pub read_header : Kind → List ℕ → Result Header ReadFault

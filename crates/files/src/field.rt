@@ -1,11 +1,12 @@
 // The fields that a record may have.
-ghost use Rattle.std.specs.Prelude.{◌≡◌, ◌<◌, Decides};
+ghost use Rattle.std.specs.Prelude.{◌≡◌, ◌<◌, ◌≤◌, ◌↔◌, IsTrue, length};
 ghost use Rattle.files.specs.Formats.{bytes_of, absent_of, limit_of};
-ghost use Rattle.files.specs.Contents.{is_written, may_hold};
+ghost use Rattle.files.specs.Contents.{is_written, may_hold, field_bytes};
+ghost use Rattle.files.specs.Writing.{Wrote};
 
-use crate::numbers::has_bits;
+use crate::numbers::{has_bits, write_number};
 
-#[derive(Clone, Copy)]
+#[derive(Clone, Copy, PartialEq, Eq, Debug)]
 pub enum Field {
     Set,
     Place,
@@ -37,7 +38,7 @@ impl Field {
 
     // Whether the value is one that it can have, in a domain of so many fluents or places.
     pub(crate) fn in_range(self, size: u8, value: u64) -> bool
-        ensures { Decides result (value < limit_of size self) }
+        ensures { IsTrue result ↔ (value < limit_of size self) }
     {
         match self {
             Field::Set => has_bits(value, size),
@@ -58,5 +59,17 @@ impl Field {
         ensures { result ≡ may_hold size self value }
     {
         self.in_range(size, value) && self.is_written(value)
+    }
+
+    // The value into the front of the place, and nothing where it is the absent one; the answer is how many bytes that takes.
+    pub(crate) fn write(self, value: u64, place: &mut [u8]) -> usize
+        requires { length (field_bytes self value) ≤ length place.old }
+        ensures { Wrote (field_bytes self value) place.old place.new result }
+    {
+        if self.is_written(value) {
+            write_number(value, self.bytes(), place)
+        } else {
+            0
+        }
     }
 }

@@ -1,23 +1,21 @@
 // Numbers as bytes, lowest first.
-ghost use Rattle.std.specs.Prelude.{◌≡◌, ◌+◌, ◌^◌, ◌<◌, ◌≤◌, length, Decides};
+ghost use Rattle.std.specs.Prelude.{◌≡◌, ◌^◌, ◌<◌, ◌≤◌, ◌↔◌, IsTrue, length};
 ghost use Rattle.files.specs.Numbers.{little, spelled};
 ghost use Rattle.files.specs.Writing.{Wrote};
 
 // The number that the bytes spell.
 pub(crate) fn read_number(bytes: &[u8]) -> u64
-    requires { length bytes.now ≤ 7 }
+    requires { length bytes.now ≤ 8 }
     ensures { result ≡ little bytes.now }
 {
-    let mut value = 0;
-    for i in (0..bytes.len()).rev() {
-        value = value * 256 + u64::from(bytes[i]);
-    }
-    value
+    let mut all = [0; 8];
+    all[..bytes.len()].copy_from_slice(bytes);
+    u64::from_le_bytes(all)
 }
 
 // Whether the value takes no more than so many bits.
 pub(crate) fn has_bits(value: u64, bits: u8) -> bool
-    ensures { Decides result (value < 2 ^ bits) }
+    ensures { IsTrue result ↔ (value < 2 ^ bits) }
 {
     match value.checked_shr(u32::from(bits)) {
         Some(high) => high == 0,
@@ -25,15 +23,12 @@ pub(crate) fn has_bits(value: u64, bits: u8) -> bool
     }
 }
 
-// The number in so many bytes from a byte on; the answer is the byte after them.
-pub(crate) fn write_number(value: u64, count: usize, place: &mut [u8], from: usize) -> usize
-    requires { from + count ≤ length place.old }
-    ensures { Wrote (spelled count value) from place.old place.new result }
+// The number's lowest bytes into the front of the place; the answer is how many they are.
+pub(crate) fn write_number(value: u64, count: usize, place: &mut [u8]) -> usize
+    requires few { count ≤ 8 }
+    requires fit { count ≤ length place.old }
+    ensures { Wrote (spelled count value) place.old place.new result }
 {
-    let mut rest = value;
-    for i in 0..count {
-        place[from + i] = (rest % 256) as u8;
-        rest /= 256;
-    }
-    from + count
+    place[..count].copy_from_slice(&value.to_le_bytes()[..count]);
+    count
 }

@@ -1,59 +1,46 @@
 // Reading a whole file.
-ghost use Rattle.std.specs.Prelude.{◌≡◌, ◌+◌, ◌≤◌, length, IfErr, vec_len, vec_capacity};
+ghost use Rattle.std.specs.Prelude.{◌≡◌, ◌+◌, ◌≤◌, IfErr, vec_len, vec_capacity};
 ghost use Rattle.files.specs.Exact.{ReadExactly};
 ghost use Rattle.files.specs.Outcome.{outcome, SameRoom};
-ghost use Rattle.files.specs.Reading.{read_record, read_records, read_file, part_with, parts_with, file_with, joined_to, headed};
+ghost use Rattle.files.specs.Places.{parts_at};
+ghost use Rattle.files.specs.Reading.{read_file, file_with, joined_to, headed};
 
 use crate::file::{File, Unread};
-use crate::header::{Header, read_header};
-use crate::kind::{Kind, Part, Shape};
-use crate::read_record::read_record;
+use crate::header::Header;
+use crate::kind::{Kind, Part};
+use crate::layout::Layout;
+use crate::read_record::Cursor;
 use crate::record::Record;
 use domain::fault::{Position, ReadFault};
 use domain::room::Room;
 
-// What a record stands for, and the byte after it.
-fn read_part<R: Record>(shape: Shape, bytes: &[u8], at: Position) -> Result<(R, usize), ReadFault>
-    ensures { result ≡ part_with R.made (read_record shape.kind shape.part shape.size bytes.now at.«record» at.byte) }
-{
-    let mut values = [0u64; 4];
-    let (marked, next) = read_record(shape, bytes, at, &mut values)?;
-    let length = shape.kind.fields(shape.part).len();
-    Ok((R::from_values(&values[0..length], marked), next))
-}
-
-// What so many records stand for goes into the room. The answer is the byte after them.
+// What so many records stand for goes into the room. The answer is the position after them.
 fn read_parts<R: Record>(
-    shape: Shape,
-    bytes: &[u8],
+    from: Cursor,
+    layout: Layout,
     count: usize,
-    from: Position,
     room: &mut Vec<R>,
-) -> Result<usize, ReadFault>
+) -> Result<Position, ReadFault>
     requires empty { vec_len room.old ≡ 0 }
     requires wide { count ≤ vec_capacity room.old }
-    requires few { from.«record» + count ≤ 1000 }
-    ensures value { parts_with R.made (read_records shape.kind shape.part shape.size bytes.now count from.«record» from.byte) ≡ joined_to room.new.items result }
+    requires few { from.at.«record» + count ≤ 1000 }
+    ensures value { parts_at R.made from.entry layout count ≡ joined_to room.new.items result }
     ensures room { vec_capacity room.new ≡ vec_capacity room.old }
 {
-    let first = from.record;
-    let mut byte = from.byte;
-    for i in 0..count {
-        let (item, next) = read_part(
-            shape,
-            bytes,
-            Position {
-                record: first + i,
-                byte,
-            },
-        )?;
+    let mut at = from.at;
+    for _ in 0..count {
+        let (item, byte) = Cursor { at, ..from }.record(layout)?;
         room.push_reserved(item);
-        byte = next;
+        at = Position {
+            record: at.record + 1,
+            byte,
+        };
     }
-    Ok(byte)
+    Ok(at)
 }
 
 // The actions and the goals go into the places for them. The answer is the header.
+// The places and not the room: a room is empty by its type, also behind a reference.
 fn read_into<S: Record, G: Record>(
     kind: Kind,
     bytes: &[u8],
@@ -65,33 +52,26 @@ fn read_into<S: Record, G: Record>(
     ensures value { file_with S.made G.made (read_file kind bytes.now) ≡ headed actions.new.items goals.new.items result }
     ensures room { (vec_capacity actions.new ≡ vec_capacity actions.old) × (vec_capacity goals.new ≡ vec_capacity goals.old) }
 {
-    let header = read_header(kind, bytes)?;
-    let size = header.size;
-    let action_count = usize::from(header.actions);
-    let goal_count = usize::from(header.goals);
-    let shape = Shape {
-        kind,
-        part: Part::Action,
-        size,
-    };
-    let byte = kind.header_length();
-    let byte = read_parts(
-        shape,
+    let header = Header::read(kind, bytes)?;
+    let first = Cursor {
         bytes,
-        action_count,
-        Position { record: 1, byte },
-        actions,
-    )?;
-    let shape = Shape {
-        kind,
-        part: Part::Goal,
-        size,
+        size: header.size,
+        at: Position {
+            record: 1,
+            byte: kind.header_length(),
+        },
     };
-    let record = 1 + action_count;
-    let byte = read_parts(shape, bytes, goal_count, Position { record, byte }, goals)?;
-    if byte != bytes.len() {
-        let record = record + goal_count;
-        return Err(ReadFault::End(Position { record, byte }));
+    let action_count = usize::from(header.actions);
+    let at = read_parts(first, kind.layout(Part::Action), action_count, actions)?;
+    let goal_count = usize::from(header.goals);
+    let at = read_parts(
+        Cursor { at, ..first },
+        kind.layout(Part::Goal),
+        goal_count,
+        goals,
+    )?;
+    if at.byte != bytes.len() {
+        return Err(ReadFault::End(at));
     }
     Ok(header)
 }

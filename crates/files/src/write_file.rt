@@ -1,87 +1,49 @@
 // Writing a whole file.
-ghost use Rattle.std.specs.Prelude.{◌≡◌, ◌+◌, ◌≤◌, map, length, nat_le};
-ghost use Rattle.std.specs.List.{flat_map};
-ghost use Rattle.files.specs.Contents.{record_bytes, header_bytes, file_bytes};
-ghost use Rattle.files.specs.Formats.{header_length};
-ghost use Rattle.files.specs.Writing.{write_outcome, place_after, Wrote, room_after, raw_of};
+ghost use Rattle.std.specs.Prelude.{◌≡◌, ◌-◌, ◌≤◌, length, SomeIff};
+ghost use Rattle.files.specs.Contents.{file_bytes};
+ghost use Rattle.files.specs.Writing.{write_outcome, place_after, Wrote, raw_of, records_of, file_length};
 
+use crate::header::Header;
 use crate::kind::{Kind, Part};
-use crate::numbers::write_number;
+use crate::layout::Layout;
 use crate::record::Record;
-use crate::write_record::{record_length, write_record};
 use domain::fault::WriteFault;
 
 // How much of the room is left after the records of the items, if they fit.
-fn room_after<R: Record>(kind: Kind, part: Part, items: &[R], room: usize) -> Option<usize>
-    ensures { result ≡ room_after (flat_map (record_bytes kind part) (map R.written items.now)) room }
+fn room_after<R: Record>(layout: Layout, items: &[R], room: usize) -> Option<usize>
+    ensures { let size = length (records_of layout R.written items.now) in SomeIff result (size ≤ room) (room - size) }
 {
     let mut left = room;
     for item in items {
-        let length = record_length(kind, part, item);
-        if left < length {
-            return None;
-        }
-        left -= length;
+        left = left.checked_sub(layout.record_length(item))?;
     }
     Some(left)
 }
 
-// The records of the items from a byte on; the answer is the byte after them.
-fn write_parts<R: Record>(
+// How much of the room is left after the whole file, if it fits.
+fn room_after_file<S: Record, G: Record>(
     kind: Kind,
-    part: Part,
-    items: &[R],
-    place: &mut [u8],
-    from: usize,
-) -> usize
-    requires { from + length (flat_map (record_bytes kind part) (map R.written items.now)) ≤ length place.old }
-    ensures { Wrote (flat_map (record_bytes kind part) (map R.written items.now)) from place.old place.new result }
-{
-    let mut at = from;
-    for item in items {
-        at = write_record(kind, part, item, place, at);
-    }
-    at
-}
-
-// What stands before the records; the answer is the byte after it.
-fn write_header(
-    kind: Kind,
-    size: u8,
-    actions: usize,
-    goals: usize,
-    start: u64,
-    place: &mut [u8],
-) -> usize
-    requires { header_length kind ≤ length place.old }
-    ensures { Wrote (header_bytes kind size actions goals start) 0 place.old place.new result }
-{
-    place[0] = kind.letter();
-    let at = write_number(u64::from(size), 1, place, 1);
-    let at = write_number(actions as u64, 1, place, at);
-    let at = write_number(goals as u64, 1, place, at);
-    write_number(start, kind.start().bytes(), place, at)
-}
-
-// Whether the file fits the room.
-fn fits<S: Record, G: Record>(
-    kind: Kind,
-    size: u8,
-    start: u64,
     actions: &[S],
     goals: &[G],
     room: usize,
-) -> bool
-    ensures { result ≡ nat_le (length (file_bytes kind (raw_of S.written G.written size start actions.now goals.now))) room }
+) -> Option<usize>
+    ensures { let size = file_length kind S.written G.written actions.now goals.now in SomeIff result (size ≤ room) (room - size) }
 {
-    let header = kind.header_length();
-    if room < header {
-        return false;
+    let left = room.checked_sub(kind.header_length())?;
+    let left = room_after(kind.layout(Part::Action), actions, left)?;
+    room_after(kind.layout(Part::Goal), goals, left)
+}
+
+// The records of the items into the front of the place; the answer is how many bytes they take.
+fn write_parts<R: Record>(layout: Layout, items: &[R], place: &mut [u8]) -> usize
+    requires { length (records_of layout R.written items.now) ≤ length place.old }
+    ensures { Wrote (records_of layout R.written items.now) place.old place.new result }
+{
+    let mut count = 0;
+    for item in items {
+        count += layout.write_record(item, &mut place[count..]);
     }
-    match room_after(kind, Part::Action, actions, room - header) {
-        Some(left) => room_after(kind, Part::Goal, goals, left).is_some(),
-        None => false,
-    }
+    count
 }
 
 // The file into the front of the place; the answer is how many bytes it takes.
@@ -96,10 +58,12 @@ pub fn write_file<S: Record, G: Record>(
     ensures value { result ≡ write_outcome (file_bytes kind (raw_of S.written G.written size start actions.now goals.now)) place.old }
     ensures place { place.new ≡ place_after (file_bytes kind (raw_of S.written G.written size start actions.now goals.now)) place.old }
 {
-    if !fits(kind, size, start, actions, goals, place.len()) {
+    if room_after_file(kind, actions, goals, place.len()).is_none() {
         return Err(WriteFault::Place);
     }
-    let at = write_header(kind, size, actions.len(), goals.len(), start, place);
-    let at = write_parts(kind, Part::Action, actions, place, at);
-    Ok(write_parts(kind, Part::Goal, goals, place, at))
+    let header = Header::new(size, actions.len(), goals.len(), start);
+    let mut count = header.write(kind, place);
+    count += write_parts(kind.layout(Part::Action), actions, &mut place[count..]);
+    count += write_parts(kind.layout(Part::Goal), goals, &mut place[count..]);
+    Ok(count)
 }

@@ -1,44 +1,58 @@
-use Rattle.std.proofs.Common.{◌≡◌, ◌+◌, ◌-◌, [], vec_items, sym, refl, ap, ◌∙◌, arith}
+use Rattle.std.proofs.Common.{◌≡◌, ◌+◌, ◌-◌, [], vec_items, Ok, sym, refl, ap, ◌∙◌, arith}
 use Rattle.std.proofs.lemmas.List.{nil_from_length}
 use Rattle.std.proofs.lemmas.Result.{err_from_is_err_and}
-use Rattle.files.specs.Reading.{read_records, parts_with}
+use Rattle.files.specs.Places.{placed}
+use Rattle.files.specs.Reading.{position, read_records, parts_with}
 use Rattle.files.proofs.ReadSteps.{prefixed, parts_none, parts_ok, parts_err, parts_all}
 use Rattle.files.proofs.read_file.read_parts.Goals as goal
 
-pub loop-i-init : goal.loop-i-init
-loop-i-init g c =
-    let s = c.args.shape in
+pub loop-init : goal.loop-init
+loop-init g c =
+    let l = c.args.layout in
+    let s = c.args.from in
     let none : vec_items c.args.room.now ≡ [] = nil_from_length _ (omega (arith, c.args.room.now.ok.0, c.requires.empty)) in
-    (c.requires.empty, refl, parts_none g.R.Record.made s.kind s.part s.size c.args.bytes.now c.args.count c.args.from.«record» c.args.from.byte (vec_items c.args.room.now) none)
+    record {
+      len = c.requires.empty;
+      width = refl;
+      number = omega arith;
+      value = parts_none g.R.Record.made l.kind l.part s.size s.bytes.now c.args.count s.at.«record» s.at.byte (vec_items c.args.room.now) none;
+    }
 
 pub returns-in_err-item : goal.returns-in_err-item
 returns-in_err-item g c =
-    let s = c.args.shape in
+    let l = c.args.layout in
+    let s = c.args.from in
+    let at = c.loop.at in
     let p = err_from_is_err_and c.from_residual.result c.from_residual.ensures.1 in
-    let refusal = parts_err g.R.Record.made s.kind s.part s.size c.args.bytes.now c.args.count c.args.from.«record» c.loop-i.i c.loop-i.byte (vec_items c.loop-i.room) c.in_err-item.field-0.0 c.loop-i-test.true (sym c.read_part.ensures ∙ c.in_err-item.was) in
-    record { value = rw (p.1, p.2) (c.loop-i.invariant.2 ∙ refusal); room = c.loop-i.invariant.1 }
+    let refusal = parts_err g.R.Record.made l.kind l.part s.size s.bytes.now c.args.count c.loop.counter at.«record» at.byte (vec_items c.loop.room) c.in_err-item.field-0.0 c.loop-test.true (sym c.record.ensures ∙ c.in_err-item.was) in
+    record { value = rw (p.1, p.2) (ap (placed (s.at.«record» + c.args.count)) (c.loop.invariant.value ∙ refusal)); room = c.loop.invariant.width }
 
-pub push_reserved-requires : goal.push_reserved-requires
-push_reserved-requires g c = omega (arith, c.loop-i.invariant.0, c.loop-i.invariant.1, c.requires.wide, c.loop-i-test.true)
-
-pub loop-i-preserved : goal.loop-i-preserved
-loop-i-preserved g c =
-    let s = c.args.shape in
+pub loop-preserved : goal.loop-preserved
+loop-preserved g c =
+    let l = c.args.layout in
+    let s = c.args.from in
+    let at = c.loop.at in
     let make = g.R.Record.made in
-    let bs = c.args.bytes.now in
-    let i = c.loop-i.i in
-    let first = c.args.from.«record» in
     let item = c.in_ok-item in
-    let turn = parts_ok make s.kind s.part s.size bs c.args.count first i c.loop-i.byte (vec_items c.loop-i.room) item.item item.next c.loop-i-test.true (sym c.read_part.ensures ∙ item.was) in (
-      omega (arith, c.loop-i.invariant.0, c.push_reserved.ensures.len),
-      c.push_reserved.ensures.capacity ∙ c.loop-i.invariant.1,
-      c.loop-i.invariant.2
+    let turn = parts_ok make l.kind l.part s.size s.bytes.now c.args.count c.loop.counter at.«record» at.byte (vec_items c.loop.room) item.item item.byte c.loop-test.true (sym c.record.ensures ∙ item.was) in
+    record {
+      len = omega (arith, c.loop.invariant.len, c.push_reserved.ensures.len);
+      width = c.push_reserved.ensures.capacity ∙ c.loop.invariant.width;
+      number = omega (arith, c.loop.invariant.number);
+      value =
+          c.loop.invariant.value
           ∙ turn
-          ∙ ap (λ xs. prefixed xs (parts_with make (read_records s.kind s.part s.size bs (c.args.count - (i + 1)) (first + (i + 1)) item.next))) (sym c.push_reserved.ensures.items),
-    )
+          ∙ ap (λ xs. prefixed xs (parts_with make (read_records l.kind l.part s.size s.bytes.now (c.args.count - (c.loop.counter + 1)) (at.«record» + 1) item.byte))) (sym c.push_reserved.ensures.items);
+    }
 
 pub returns : goal.returns
 returns g c =
-    let s = c.args.shape in
-    let all = parts_all g.R.Record.made s.kind s.part s.size c.args.bytes.now c.args.count c.args.from.«record» c.loop-i.i c.loop-i.byte (vec_items c.loop-i.room) c.loop-i-test.false in
-    record { value = c.loop-i.invariant.2 ∙ all; room = c.loop-i.invariant.1 }
+    let l = c.args.layout in
+    let s = c.args.from in
+    let at = c.loop.at in
+    let all = parts_all g.R.Record.made l.kind l.part s.size s.bytes.now c.args.count c.loop.counter at.«record» at.byte (vec_items c.loop.room) c.loop-test.false in
+    let number : s.at.«record» + c.args.count ≡ at.«record» = omega (arith, c.loop.invariant.number, c.loop-test.false, c.loop.auto.counter-end) in
+    record {
+      value = ap (placed (s.at.«record» + c.args.count)) (c.loop.invariant.value ∙ all) ∙ ap (λ r. Ok (vec_items c.loop.room, position r at.byte)) number;
+      room = c.loop.invariant.width;
+    }

@@ -1,8 +1,9 @@
-use Rattle.std.proofs.Common.{map, take}
-use Rattle.std.specs.List.{flat_map}
-use Rattle.files.specs.Contents.{record_bytes}
-use Rattle.files.specs.Writing.{Wrote}
+use Rattle.std.proofs.Common.{drop}
+use Rattle.files.specs.Writing.{records_of}
+use Rattle.files.proofs.WriteSteps.{Begun}
 use Rattle.files.proofs.write_file.write_parts.Given as goal
 
 abbrev pub invariant-loop-item : goal.invariant-loop-item
-invariant-loop-item g l = Wrote (flat_map (record_bytes l.kind l.part) (take l.item-index (map g.R.Record.written l.items))) l.from l.initial.place l.place l.at
+invariant-loop-item g l =
+    let records = records_of l.layout g.R.Record.written in
+    Begun (records l.items) (records (drop l.item-index l.items)) l.initial.place l.place l.count

@@ -1,0 +1,33 @@
+-- Reading from a place in a file.
+use Rattle.std.specs.Prelude.{ℕ, ◌+◌, Bool, List, length, take, Ok, Err, Result}
+use Rattle.domain.specs.declared.fault.Position.{Position}
+use Rattle.domain.specs.declared.fault.ReadFault.{ReadFault}
+use Rattle.files.specs.declared.field.Field.{Field}
+use Rattle.files.specs.declared.layout.Layout.{Layout}
+use Rattle.files.specs.declared.read_record.Cursor.{Cursor}
+use Rattle.files.specs.Contents.{Entry}
+use Rattle.files.specs.Formats.{fields_of}
+use Rattle.files.specs.Reading.{position, read_field, read_fields, read_record, read_records, parts_with}
+
+abbrev pub field_at : Cursor → Field → Bool → Result (ℕ × ℕ) ReadFault
+field_at c f present = read_field c.bytes.now c.size c.at.«record» c.at.byte f present
+
+abbrev pub fields_at : Cursor → Layout → ℕ → Result (List ℕ × (ℕ × ℕ)) ReadFault
+fields_at c l map = read_fields c.bytes.now c.size c.at.«record» c.at.byte map (fields_of l.kind l.part)
+
+-- the values of a layout's fields, which stand first in an array
+abbrev pub first_values : Layout → Result (List ℕ × ℕ × ℕ) ReadFault → Result (List ℕ × (ℕ × ℕ)) ReadFault
+first_values l (Ok x) = Ok (take (length (fields_of l.kind l.part)) x.0, (x.1, x.2))
+first_values l (Err e) = Err e
+
+abbrev pub record_at : Cursor → Layout → Result (Entry × ℕ) ReadFault
+record_at c l = read_record l.kind l.part c.size c.bytes.now c.at.«record» c.at.byte
+
+-- a byte as a position in the record of a number
+abbrev pub placed : {X : Type 0} → ℕ → Result (X × ℕ) ReadFault → Result (X × Position) ReadFault
+placed r (Ok y) = Ok (y.0, position r y.1)
+placed r (Err e) = Err e
+
+-- what n records stand for, and the position after them
+abbrev pub parts_at : {X : Type 0} → (Entry → X) → Cursor → Layout → ℕ → Result (List X × Position) ReadFault
+parts_at make c l n = placed (c.at.«record» + n) (parts_with make (read_records l.kind l.part c.size c.bytes.now n c.at.«record» c.at.byte))
