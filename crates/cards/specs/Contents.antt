@@ -1,9 +1,9 @@
 -- What a card holds, apart from where it lies in memory.
-use Rattle.std.specs.Prelude.{◌≡◌, ℕ, ◌≤◌, List, length, vec_items, Option, MatchOption}
+use Rattle.std.specs.Prelude.{◌≡◌, ℕ, ◌≤◌, List, length, vec_items, Option, MatchOption, All}
 use Rattle.cards.specs.declared.action.Action.{Action}
 use Rattle.cards.specs.declared.card.Card.{Card}
 use Rattle.fluents.specs.declared.FluentSet.{FluentSet}
-use Rattle.cards.specs.Limits.{Among, EveryAction, EveryGoal}
+use Rattle.cards.specs.Limits.{Among, ActionAmong}
 
 pub record Contents : Type 0 where
   pub fluents : ℕ
@@ -23,8 +23,8 @@ pub record InLimits (c : Contents) : Type 0 where
   pub goals_low : 1 ≤ length c.goals
   pub goals_high : length c.goals ≤ 32
   pub start_among : Among c.fluents c.start
-  pub actions_among : EveryAction c.fluents c.actions
-  pub goals_among : EveryGoal c.fluents c.goals
+  pub actions_among : All (ActionAmong c.fluents) c.actions
+  pub goals_among : All (Among c.fluents) c.goals
 
 -- the card that is made of parts: it holds them, and there is one exactly where they are within the limits
 abbrev pub MadeOf : Contents → Option Card → Type 0

@@ -1,6 +1,6 @@
 // A set-up card. It has no public fields, and its limits are part of its type.
-ghost use Rattle.std.specs.Prelude.{◌≤◌, vec_len};
-ghost use Rattle.cards.specs.Limits.{Among, EveryAction, EveryGoal};
+ghost use Rattle.std.specs.Prelude.{◌≤◌, vec_len, All};
+ghost use Rattle.cards.specs.Limits.{Among, ActionAmong};
 
 use crate::action::Action;
 use fluents::FluentSet;
@@ -15,6 +15,6 @@ pub struct Card {
     ghost actioncount: { (1 ≤ vec_len actions) × (vec_len actions ≤ 120) },
     ghost goalcount: { (1 ≤ vec_len goals) × (vec_len goals ≤ 32) },
     ghost startamong: { Among fluents start },
-    ghost actionsamong: { EveryAction fluents actions.items },
-    ghost goalsamong: { EveryGoal fluents goals.items },
+    ghost actionsamong: { All (ActionAmong fluents) actions.items },
+    ghost goalsamong: { All (Among fluents) goals.items },
 }

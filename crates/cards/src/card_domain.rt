@@ -39,7 +39,7 @@ impl Domain for Card {
         ensures value { result ≡ (meaning_of (contents self.now)).start }
         ensures own { result ≡ self.now.start.0 }
     {
-        self.start.bits()
+        u64::from(self.start)
     }
 
     fn runs(&self, state: u64, action: u8) -> bool
@@ -47,7 +47,7 @@ impl Domain for Card {
         ensures fluents { Decides result (Runs (contents self.now) state action) }
     {
         match self.actions.get(usize::from(action)) {
-            Some(a) => self.is_state(state) && a.needs.within(FluentSet::from_bits(state)),
+            Some(a) => self.is_state(state) && a.needs.within(FluentSet::from(state)),
             None => false,
         }
     }
@@ -59,9 +59,9 @@ impl Domain for Card {
     {
         match self.actions.get(usize::from(action)) {
             Some(a) => {
-                let s = FluentSet::from_bits(state);
+                let s = FluentSet::from(state);
                 if self.is_state(state) && a.needs.within(s) {
-                    s.without(a.deletes).with(a.adds).bits()
+                    u64::from(s.without(a.deletes).with(a.adds))
                 } else {
                     state
                 }
@@ -95,7 +95,7 @@ impl Domain for Card {
         ensures fluents { Decides result (Meets (contents self.now) state goal) }
     {
         match self.goals.get(usize::from(goal)) {
-            Some(set) => self.is_state(state) && set.within(FluentSet::from_bits(state)),
+            Some(set) => self.is_state(state) && set.within(FluentSet::from(state)),
             None => false,
         }
     }

@@ -23,9 +23,9 @@ impl Record for Action {
 
     fn from_values(values: &[u64], marked: bool) -> Action {
         Action {
-            needs: FluentSet::from_bits(value_at(values, 0)),
-            adds: FluentSet::from_bits(value_at(values, 1)),
-            deletes: FluentSet::from_bits(value_at(values, 2)),
+            needs: FluentSet::from(value_at(values, 0)),
+            adds: FluentSet::from(value_at(values, 1)),
+            deletes: FluentSet::from(value_at(values, 2)),
             cost: value_at(values, 3).min(65_535) as u16,
             marked,
         }
@@ -33,9 +33,9 @@ impl Record for Action {
 
     fn value(&self, field: usize) -> u64 {
         match field {
-            0 => self.needs.bits(),
-            1 => self.adds.bits(),
-            2 => self.deletes.bits(),
+            0 => u64::from(self.needs),
+            1 => u64::from(self.adds),
+            2 => u64::from(self.deletes),
             3 => u64::from(self.cost),
             _ => 0,
         }
@@ -60,7 +60,7 @@ impl Card {
         let file = read_file(Kind::Card, bytes, room)?;
         Ok(Card {
             fluents: file.size,
-            start: FluentSet::from_bits(file.start),
+            start: FluentSet::from(file.start),
             actions: file.actions,
             goals: file.goals,
         })
@@ -75,7 +75,7 @@ impl Card {
         write_file(
             Kind::Card,
             self.fluents,
-            self.start.bits(),
+            u64::from(self.start),
             self.actions.as_slice(),
             self.goals.as_slice(),
             place,

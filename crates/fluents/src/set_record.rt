@@ -10,11 +10,11 @@ impl Record for FluentSet {
     ghost made = { entry_set };
 
     fn from_values(values: &[u64], _marked: bool) -> FluentSet {
-        FluentSet::from_bits(value_at(values, 0))
+        FluentSet::from(value_at(values, 0))
     }
 
     fn value(&self, field: usize) -> u64 {
-        if field == 0 { self.bits() } else { 0 }
+        if field == 0 { u64::from(*self) } else { 0 }
     }
 
     fn is_marked(&self) -> bool {

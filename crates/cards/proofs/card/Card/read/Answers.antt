@@ -28,7 +28,7 @@ invariant_of-result c =
       fluentcount = (l.fluents_low, l.fluents_high);
       actioncount = (omega (arith, file.actions.ok.0, l.actions_low), omega (arith, file.actions.ok.0, l.actions_high));
       goalcount = (omega (arith, file.goals.ok.0, l.goals_low), omega (arith, file.goals.ok.0, l.goals_high));
-      startamong = omega (arith, l.start_among, c.from_bits.ensures);
+      startamong = omega (arith, l.start_among, c.from.ensures);
       actionsamong = l.actions_among;
       goalsamong = l.goals_among;
     }
@@ -38,6 +38,6 @@ returns c =
     let told = c.in_ok-file.ensures in
     let file = c.in_ok-file.file in
     let card : FluentSet → Contents = λ start. record { fluents = file.size; start = start; actions = vec_items file.actions; goals = vec_items file.goals } in
-    let read : Ok (card c.from_bits.result) ≡ read_card c.args.bytes.now = ap (λ bits. Ok (card (set_of bits))) c.from_bits.ensures ∙ ap as_contents told.value in
+    let read : Ok (card c.from.result) ≡ read_card c.args.bytes.now = ap (λ bits. Ok (card (set_of bits))) c.from.ensures ∙ ap as_contents told.value in
     let exact : ReadExactly c.args.bytes.now = card_exactly c.args.bytes.now told.exact in
-    record { value = read; room = tt; exact = exact; same = sym (exact.only (card c.from_bits.result) (sym read)).1 }
+    record { value = read; room = tt; exact = exact; same = sym (exact.only (card c.from.result) (sym read)).1 }

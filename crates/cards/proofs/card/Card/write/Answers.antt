@@ -15,8 +15,8 @@ pub returns : goal.returns
 returns c =
     let card = c.args.self.now in
     let file : ℕ → List Action → List FluentSet → List ℕ = λ start actions goals. file_bytes kind.Card (raw_of action_entry set_entry card.fluents start actions goals) in
-    let same : file c.bits.result c.as_slice.result.now c.as_slice-2.result.now ≡ card_file (contents card) =
-    ap (λ start. file start c.as_slice.result.now c.as_slice-2.result.now) c.bits.ensures
+    let same : file c.from.result c.as_slice.result.now c.as_slice-2.result.now ≡ card_file (contents card) =
+    ap (λ start. file start c.as_slice.result.now c.as_slice-2.result.now) c.from.ensures
     ∙ ap (λ actions. file card.start.0 actions c.as_slice-2.result.now) c.as_slice.ensures.value
     ∙ ap (file card.start.0 (vec_items card.actions)) c.as_slice-2.ensures.value in
     record {

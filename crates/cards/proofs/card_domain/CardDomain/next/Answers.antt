@@ -9,7 +9,7 @@ pub returns-then-within : goal.returns-then-within
 returns-then-within c =
     let card = contents c.args.self.now in
     let runs : Runs card c.args.state c.args.action = search rules in
-    let after : After card c.args.state c.args.action c.bits.result = after_from_steps card _ _ c.without.result.0 _ (search rules) (search rules) in
+    let after : After card c.args.state c.args.action c.from-then-within.result = after_from_steps card _ _ c.without.result.0 _ (search rules) (search rules) in
     record { value = next_from_laws card _ _ _ (λ _. after) (λ no. absurd (no runs)); fluents = λ _. after; stays = λ no. absurd (no runs) }
 
 pub returns-else-is_state : goal.returns-else-is_state
