@@ -74,14 +74,4 @@ limits c l = record {
 
 -- every card is within its limits
 pub in_limits : (c : Card) → InLimits (contents c)
-in_limits c = record {
-  fluents_low = c.fluentcount.0;
-  fluents_high = c.fluentcount.1;
-  actions_low = omega arith;
-  actions_high = omega arith;
-  goals_low = omega arith;
-  goals_high = omega arith;
-  start_among = c.startamong;
-  actions_among = c.actionsamong;
-  goals_among = c.goalsamong;
-}
+in_limits c = c.in_limits

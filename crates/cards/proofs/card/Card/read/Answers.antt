@@ -23,15 +23,7 @@ pub invariant_of-result : goal.invariant_of-result
 invariant_of-result c =
     let told = c.in_ok-file.ensures in
     let file = c.in_ok-file.file in
-    let l = (card_limits c.args.bytes.now told.exact (contents_of file) (sym told.value)).0 in
-    record {
-      fluentcount = (l.fluents_low, l.fluents_high);
-      actioncount = (omega (arith, file.actions.ok.0, l.actions_low), omega (arith, file.actions.ok.0, l.actions_high));
-      goalcount = (omega (arith, file.goals.ok.0, l.goals_low), omega (arith, file.goals.ok.0, l.goals_high));
-      startamong = omega (arith, l.start_among, c.from.ensures);
-      actionsamong = l.actions_among;
-      goalsamong = l.goals_among;
-    }
+    record { in_limits = rw c.from.ensures (card_limits c.args.bytes.now told.exact (contents_of file) (sym told.value)).0 }
 
 pub returns : goal.returns
 returns c =
