@@ -37,14 +37,4 @@ limits c l = record {
 
 -- every map is within its limits
 pub in_limits : (m : FieldMap) → InLimits (contents m)
-in_limits m = record {
-  places_low = m.placecount.0;
-  places_high = m.placecount.1;
-  moves_low = omega arith;
-  moves_high = omega arith;
-  goals_low = omega arith;
-  goals_high = omega arith;
-  start_among = m.startamong;
-  moves_among = m.movesamong;
-  goals_among = m.goalsamong;
-}
+in_limits m = m.in_limits

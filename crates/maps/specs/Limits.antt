@@ -1,5 +1,5 @@
--- The limits of a map's parts: moves and goals lie among its places, and a cost is at most 60000.
-use Rattle.std.specs.Prelude.{ℕ, ◌<◌, ◌≤◌, List, length, slice_index_or}
+-- The parts of a map and their limits: moves and goals lie among its places, and a cost is at most 60000.
+use Rattle.std.specs.Prelude.{ℕ, ◌<◌, ◌≤◌, List, length, All}
 use Rattle.maps.specs.declared.moves.Move.{Move}
 use Rattle.maps.specs.declared.place.Place.{Place}
 
@@ -11,8 +11,20 @@ Among n place = place.0 < n
 abbrev pub MoveAmong : ℕ → Move → Type 0
 MoveAmong n m = Among n m.from × Among n m.to × (m.cost ≤ 60000)
 
-abbrev pub EveryMove : ℕ → List Move → Type 0
-EveryMove n moves = (k : ℕ) (d : Move) → k < length moves → MoveAmong n (slice_index_or moves k d)
+pub record Contents : Type 0 where
+  pub places : ℕ
+  pub start : Place
+  pub moves : List Move
+  pub goals : List Place
 
-abbrev pub EveryGoal : ℕ → List Place → Type 0
-EveryGoal n goals = (k : ℕ) (d : Place) → k < length goals → Among n (slice_index_or goals k d)
+-- the limits of every map
+pub record InLimits (c : Contents) : Type 0 where
+  pub places_low : 1 ≤ c.places
+  pub places_high : c.places ≤ 64
+  pub moves_low : 1 ≤ length c.moves
+  pub moves_high : length c.moves ≤ 120
+  pub goals_low : 1 ≤ length c.goals
+  pub goals_high : length c.goals ≤ 32
+  pub start_among : Among c.places c.start
+  pub moves_among : All (MoveAmong c.places) c.moves
+  pub goals_among : All (Among c.places) c.goals

@@ -26,16 +26,7 @@ overflow_cast-result c =
 pub invariant_of-result : goal.invariant_of-result
 invariant_of-result c =
     let told = c.in_ok-file.ensures in
-    let file = c.in_ok-file.file in
-    let l = (map_limits c.args.bytes.now told.exact (contents_of file) (sym told.value)).0 in
-    record {
-      placecount = (l.places_low, l.places_high);
-      movecount = (omega (arith, file.actions.ok.0, l.moves_low), omega (arith, file.actions.ok.0, l.moves_high));
-      goalcount = (omega (arith, file.goals.ok.0, l.goals_low), omega (arith, file.goals.ok.0, l.goals_high));
-      startamong = l.start_among;
-      movesamong = l.moves_among;
-      goalsamong = l.goals_among;
-    }
+    record { in_limits = (map_limits c.args.bytes.now told.exact (contents_of c.in_ok-file.file) (sym told.value)).0 }
 
 pub returns : goal.returns
 returns c =
