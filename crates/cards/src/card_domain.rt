@@ -1,5 +1,5 @@
 // A card as a planning domain.
-ghost use Rattle.std.specs.Prelude.{◌≡◌, ◌^◌, ◌<◌, Decides};
+ghost use Rattle.std.specs.Prelude.{◌≡◌, ◌↔◌, ◌^◌, ◌<◌, IsTrue};
 ghost use Rattle.cards.specs.Cards.{meaning_of, Runs, After, Meets, OwnCost, OwnMark};
 ghost use Rattle.cards.specs.Contents.{contents};
 ghost use Rattle.cards.specs.Laws;
@@ -12,7 +12,7 @@ use fluents::FluentSet;
 impl Card {
     // A number is a state when all its bits are fluents of the card.
     fn is_state(&self, state: u64) -> bool
-        ensures { Decides result (state < 2 ^ self.now.fluents) }
+        ensures { IsTrue result ↔ (state < 2 ^ self.now.fluents) }
     {
         state < 1u64 << self.fluents
     }
@@ -44,12 +44,10 @@ impl Domain for Card {
 
     fn runs(&self, state: u64, action: u8) -> bool
         ensures value { result ≡ (meaning_of (contents self.now)).runs state action }
-        ensures fluents { Decides result (Runs (contents self.now) state action) }
+        ensures fluents { IsTrue result ↔ Runs (contents self.now) state action }
     {
-        match self.actions.get(usize::from(action)) {
-            Some(a) => self.is_state(state) && a.needs.within(FluentSet::from(state)),
-            None => false,
-        }
+        self.actions.get(usize::from(action)).is_some_and(|a| self.is_state(state)
+            && a.needs.within(FluentSet::from(state)))
     }
 
     fn next(&self, state: u64, action: u8) -> u64
@@ -57,16 +55,12 @@ impl Domain for Card {
         ensures fluents { Runs (contents self.now) state action → After (contents self.now) state action result }
         ensures stays { (Runs (contents self.now) state action → ⊥) → result ≡ state }
     {
+        let s = FluentSet::from(state);
         match self.actions.get(usize::from(action)) {
-            Some(a) => {
-                let s = FluentSet::from(state);
-                if self.is_state(state) && a.needs.within(s) {
-                    u64::from(s.without(a.deletes).with(a.adds))
-                } else {
-                    state
-                }
+            Some(a) if self.is_state(state) && a.needs.within(s) => {
+                u64::from(s.without(a.deletes).with(a.adds))
             }
-            None => state,
+            _ => state,
         }
     }
 
@@ -74,35 +68,29 @@ impl Domain for Card {
         ensures value { result ≡ (meaning_of (contents self.now)).cost action }
         ensures own { OwnCost (contents self.now) action result }
     {
-        match self.actions.get(usize::from(action)) {
-            Some(a) => a.cost,
-            None => 0,
-        }
+        self.actions.get(usize::from(action)).map_or(0, |a| a.cost)
     }
 
     fn marked(&self, action: u8) -> bool
         ensures value { result ≡ (meaning_of (contents self.now)).marked action }
         ensures own { OwnMark (contents self.now) action result }
     {
-        match self.actions.get(usize::from(action)) {
-            Some(a) => a.marked,
-            None => false,
-        }
+        self.actions
+            .get(usize::from(action))
+            .is_some_and(|a| a.marked)
     }
 
     fn meets(&self, state: u64, goal: u8) -> bool
         ensures value { result ≡ (meaning_of (contents self.now)).meets state goal }
-        ensures fluents { Decides result (Meets (contents self.now) state goal) }
+        ensures fluents { IsTrue result ↔ Meets (contents self.now) state goal }
     {
-        match self.goals.get(usize::from(goal)) {
-            Some(set) => self.is_state(state) && set.within(FluentSet::from(state)),
-            None => false,
-        }
+        self.goals.get(usize::from(goal)).is_some_and(|set| self.is_state(state)
+            && set.within(FluentSet::from(state)))
     }
 
     fn complete(&self, state: u64) -> bool
         ensures value { result ≡ (meaning_of (contents self.now)).complete state }
-        ensures every { Decides result (state < 2 ^ self.now.fluents) }
+        ensures every { IsTrue result ↔ (state < 2 ^ self.now.fluents) }
     {
         self.is_state(state)
     }

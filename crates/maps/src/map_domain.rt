@@ -1,5 +1,5 @@
 // A field map as a planning domain.
-ghost use Rattle.std.specs.Prelude.{◌≡◌, ◌^◌, ◌<◌, ◌≤◌, false, Decides};
+ghost use Rattle.std.specs.Prelude.{◌≡◌, ◌↔◌, ◌^◌, ◌<◌, ◌≤◌, false, IsTrue};
 ghost use Rattle.maps.specs.Contents.{contents};
 ghost use Rattle.maps.specs.Maps.{meaning_of, move_at, Runs, Meets, OwnCost, OwnMark};
 ghost use Rattle.maps.specs.Laws;
@@ -30,18 +30,17 @@ impl Domain for FieldMap {
         ensures value { result ≡ (meaning_of (contents self.now)).start }
         ensures own { result ≡ self.now.start.0 }
     {
-        u64::from(self.start.0)
+        u64::from(self.start)
     }
 
     fn runs(&self, state: u64, action: u8) -> bool
         ensures value { result ≡ (meaning_of (contents self.now)).runs state action }
-        ensures leaves { Decides result (Runs (contents self.now) state action) }
+        ensures leaves { IsTrue result ↔ Runs (contents self.now) state action }
         ensures elsewhere { self.now.places ≤ state → result ≡ false }
     {
-        match self.moves.get(usize::from(action)) {
-            Some(m) => state == u64::from(m.from.0),
-            None => false,
-        }
+        self.moves
+            .get(usize::from(action))
+            .is_some_and(|m| state == u64::from(m.from))
     }
 
     fn next(&self, state: u64, action: u8) -> u64
@@ -50,7 +49,7 @@ impl Domain for FieldMap {
         ensures stays { (Runs (contents self.now) state action → ⊥) → result ≡ state }
     {
         match self.moves.get(usize::from(action)) {
-            Some(m) if state == u64::from(m.from.0) => u64::from(m.to.0),
+            Some(m) if state == u64::from(m.from) => u64::from(m.to),
             _ => state,
         }
     }
@@ -59,36 +58,31 @@ impl Domain for FieldMap {
         ensures value { result ≡ (meaning_of (contents self.now)).cost action }
         ensures own { OwnCost (contents self.now) action result }
     {
-        match self.moves.get(usize::from(action)) {
-            Some(m) => m.cost,
-            None => 0,
-        }
+        self.moves.get(usize::from(action)).map_or(0, |m| m.cost)
     }
 
     fn marked(&self, action: u8) -> bool
         ensures value { result ≡ (meaning_of (contents self.now)).marked action }
         ensures own { OwnMark (contents self.now) action result }
     {
-        match self.moves.get(usize::from(action)) {
-            Some(m) => m.marked,
-            None => false,
-        }
+        self.moves
+            .get(usize::from(action))
+            .is_some_and(|m| m.marked)
     }
 
     fn meets(&self, state: u64, goal: u8) -> bool
         ensures value { result ≡ (meaning_of (contents self.now)).meets state goal }
-        ensures there { Decides result (Meets (contents self.now) state goal) }
+        ensures there { IsTrue result ↔ Meets (contents self.now) state goal }
         ensures elsewhere { self.now.places ≤ state → result ≡ false }
     {
-        match self.goals.get(usize::from(goal)) {
-            Some(place) => state == u64::from(place.0),
-            None => false,
-        }
+        self.goals
+            .get(usize::from(goal))
+            .is_some_and(|place| state == u64::from(*place))
     }
 
     fn complete(&self, state: u64) -> bool
         ensures value { result ≡ (meaning_of (contents self.now)).complete state }
-        ensures every { Decides result (state < 2 ^ 6) }
+        ensures every { IsTrue result ↔ (state < 2 ^ 6) }
     {
         state < 64
     }

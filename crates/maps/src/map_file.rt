@@ -39,8 +39,8 @@ impl Record for Move {
 
     fn value(&self, field: usize) -> u64 {
         match field {
-            0 => u64::from(self.from.0),
-            1 => u64::from(self.to.0),
+            0 => u64::from(self.from),
+            1 => u64::from(self.to),
             2 => u64::from(self.cost),
             _ => 0,
         }
@@ -61,7 +61,7 @@ impl Record for Place {
     }
 
     fn value(&self, field: usize) -> u64 {
-        if field == 0 { u64::from(self.0) } else { 0 }
+        if field == 0 { u64::from(*self) } else { 0 }
     }
 
     fn is_marked(&self) -> bool {
@@ -95,7 +95,7 @@ impl FieldMap {
         write_file(
             Kind::Map,
             self.places,
-            u64::from(self.start.0),
+            u64::from(self.start),
             self.moves.as_slice(),
             self.goals.as_slice(),
             place,

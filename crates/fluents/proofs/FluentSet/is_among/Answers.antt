@@ -1,4 +1,4 @@
-use Rattle.std.proofs.Common.{◌≡◌, ℕ, ◌/◌, ◌^◌, ◌<◌, ◌≤◌, refl, arith, rules, pow_mono}
+use Rattle.std.proofs.Common.{ℕ, ◌/◌, ◌^◌, ◌<◌, ◌≤◌, refl, arith, rules, pow_mono}
 use Rattle.files.proofs.Numerals.{no_high_bits}
 use Rattle.fluents.proofs.FluentSet.is_among.Goals as goal
 
