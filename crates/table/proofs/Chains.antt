@@ -1,48 +1,16 @@
 -- Following a chain, and adding a row to one.
-use Rattle.std.proofs.Common.{◌≡◌, ℕ, ◌+◌, ◌<◌, ◌≤◌, min, List, length, set, Some, None, Option, sym, refl, ap, ◌∙◌, subst, ⊎_elim, arith}
+use Rattle.std.proofs.Common.{◌≡◌, ℕ, ◌+◌, ◌<◌, ◌≤◌, List, length, set, Some, None, Option, sym, refl, ap, ◌∙◌, subst, ⊎_elim, arith}
 use Rattle.std.proofs.lemmas.Nat.{mod_below}
 use Rattle.std.proofs.lemmas.List.{length-set, get_or-set_same, get_or-set_other}
-use Rattle.std.proofs.lemmas.Bool.{cases_lt, cases_eq}
+use Rattle.std.proofs.lemmas.Bool.{cases_eq}
 use Rattle.table.specs.declared.row.Node.{Node}
 use Rattle.table.specs.declared.row.Row.{Row}
-use Rattle.table.specs.Index.{chain_of, chain, Latest, Indexed, Found, Put, Linked, Added}
+use Rattle.table.specs.Index.{chain_of, chain, Latest, Indexed, Put, Linked, Added}
 use Rattle.table.specs.Rows.{blank_row, at, node}
 
 -- the state is not among the rows from bound on, and seek is the latest row of its chain before
 abbrev pub Seeking : List Row → ℕ → ℕ → ℕ → Option ℕ → Type 0
 Seeking rows n s bound seek = Indexed rows n → Latest rows bound (chain_of (length rows) s) seek × ((i : ℕ) → bound ≤ i → i < n → (node rows i).state ≡ s → ⊥)
-
-module _ (rows : List Row) (n s : ℕ) where
-  same_chain : (i : ℕ) → (node rows i).state ≡ s → chain rows i ≡ chain_of (length rows) s
-  same_chain i e = ap (chain_of (length rows)) e
-
-  pub seek_begins : (bound : ℕ) (seek : Option ℕ) → bound ≡ min n (length rows) → chain_of (length rows) s < length rows → seek ≡ (at rows (chain_of (length rows) s)).link.head → Seeking rows n s bound seek
-  seek_begins bound seek e low is ok =
-      let all : n ≡ bound = omega (arith, e, ok.fits) in
-      (subst (λ o. Latest rows bound (chain_of (length rows) s) o) (sym is) (subst (λ m. Latest rows m (chain_of (length rows) s) (at rows (chain_of (length rows) s)).link.head) all (ok.heads (chain_of (length rows) s) low)), λ i h l. absurd (omega (arith, e, ok.fits)))
-
-  -- the row that was looked at is not the one, so none from it on is
-  pub seek_steps : (bound j : ℕ) (next : Option ℕ) → bound ≤ n → ((node rows j).state ≡ s → ⊥) → next ≡ (at rows j).link.next → Seeking rows n s bound (Some j) → Seeking rows n s j next
-  seek_steps bound j next low other is so ok =
-      let now = so ok in
-      let here = now.0 in (
-        subst (λ o. Latest rows j (chain_of (length rows) s) o) (sym is) (subst (λ b. Latest rows j b (at rows j).link.next) here.1 (ok.nexts j (omega (arith, here.0)))),
-        λ i h l e. ⊎_elim
-            (λ under. ⊎_elim (λ same. other (subst (λ k. (node rows k).state ≡ s) (sym same) e)) (λ apart. here.2 i (omega arith) under (same_chain i e)) (cases_eq j i))
-            (λ high. now.1 i high l e)
-            (cases_lt i bound),
-      )
-
-  pub seek_ends : (bound : ℕ) → Seeking rows n s bound None → Indexed rows n → Found rows n s None
-  seek_ends bound so ok i l e = ⊎_elim (λ low. (so ok).0 i low (same_chain i e)) (λ high. (so ok).1 i high l e) (cases_lt i bound)
-
--- a table of blank rows knows none
-pub blank_indexed : (rows : List Row) → ((k : ℕ) → at rows k ≡ blank_row) → Indexed rows 0
-blank_indexed rows all = record {
-  fits = omega arith;
-  heads = λ b h. subst (λ r. Latest rows 0 b r.link.head) (sym (all b)) (λ i l e. absurd (omega arith));
-  nexts = λ i h. absurd (omega arith);
-}
 
 -- Chains of rows with the same states.
 module _ (xs ys : List Row) where
@@ -76,42 +44,8 @@ module _ (rows : List Row) (i : ℕ) (low : i < length rows) where
     abbrev with_node : List Row
     with_node = set rows i (record { node = new; place = (at rows i).place; link = (at rows i).link })
 
-    pub put_done : Put rows i new with_node
-    put_done = record {
-      long = length-set rows i _;
-      here = λ h. ap (λ r. r.node) (get_or-set_same rows i _ blank_row h);
-      others = λ k apart. get_or-set_other rows i k _ blank_row apart;
-      place = stays (λ r. r.place) rows i _ low refl i;
-      link = stays (λ r. r.link) rows i _ low refl i;
-    }
-
     pub put_indexed : (n : ℕ) → (node rows i).state ≡ new.state → Indexed rows n → Indexed with_node n
     put_indexed n same = indexed_over rows with_node n (length-set rows i _) (stays (λ r. r.node.state) rows i _ low (sym same)) (stays (λ r. r.link) rows i _ low refl)
-
-  -- the two writes that put row i at the head of chain b
-  module _ (b : ℕ) (is : b ≡ chain rows i) (within : b < length rows) where
-    abbrev with_next : List Row
-    with_next = set rows i (record { node = (at rows i).node; place = (at rows i).place; link = record { head = (at rows i).link.head; next = (at rows b).link.head } })
-
-    abbrev with_head : List Row
-    with_head = set with_next b (record { node = (at with_next b).node; place = (at with_next b).place; link = record { head = Some i; next = (at with_next b).link.next } })
-
-    within_next : b < length with_next
-    within_next = omega (arith, length-set rows i (record { node = (at rows i).node; place = (at rows i).place; link = record { head = (at rows i).link.head; next = (at rows b).link.head } }))
-
-    pub link_done : Linked rows i with_head
-    link_done = record {
-      long = length-set with_next b _ ∙ length-set rows i _;
-      nodes = λ k. stays (λ r. r.node) with_next b _ within_next refl k ∙ stays (λ r. r.node) rows i _ low refl k;
-      places = λ k. stays (λ r. r.place) with_next b _ within_next refl k ∙ stays (λ r. r.place) rows i _ low refl k;
-      next =
-          stays (λ r. r.link.next) with_next b _ within_next refl i
-          ∙ ap (λ r. r.link.next) (get_or-set_same rows i _ blank_row low)
-          ∙ ap (λ c. (at rows c).link.head) is;
-      nexts = λ k apart. stays (λ r. r.link.next) with_next b _ within_next refl k ∙ ap (λ r. r.link.next) (get_or-set_other rows i k _ blank_row apart);
-      head = ap (λ c. (at with_head c).link.head) (sym is) ∙ ap (λ r. r.link.head) (get_or-set_same with_next b _ blank_row within_next);
-      heads = λ c apart. ap (λ r. r.link.head) (get_or-set_other with_next b c _ blank_row (λ e. apart (e ∙ is))) ∙ stays (λ r. r.link.head) rows i _ low refl c;
-    }
 
 -- A node put into row n, which then joins its chain.
 module _ (xs ys zs : List Row) (n : ℕ) (new : Node) (low : n < length xs) (put : Put xs n new ys) (linked : Linked ys n zs) where

@@ -1,5 +1,5 @@
 // Finding rows by their states.
-ghost use Rattle.std.specs.Prelude.{◌≡◌, ℕ, ◌+◌, ◌<◌, length, IfSome, if◌then◌else◌, Some, None, MatchBool, MatchOption, nat_lt};
+ghost use Rattle.std.specs.Prelude.{◌≡◌, ℕ, ◌+◌, ◌<◌, ◌↔◌, length, IsSome, IfSome, if◌then◌else◌, Some, None, MatchOption, nat_lt};
 ghost use Rattle.table.specs.Index.{chain_of, Indexed, Found, Put, Linked, Added};
 ghost use Rattle.table.specs.Rows.{blank_row, at};
 
@@ -19,9 +19,7 @@ pub fn clear(rows: &mut [Row])
     ensures rows { (k : ℕ) → at rows.new k ≡ blank_row }
     ensures indexed { Indexed rows.new 0 }
 {
-    for row in rows.iter_mut() {
-        *row = Row::blank();
-    }
+    rows.fill(Row::default());
 }
 
 // The row of a state among the first len. It is there if the table has it, provided that the rows can be found.
@@ -47,17 +45,17 @@ pub fn find(rows: &[Row], len: usize, state: u64) -> Option<usize>
     None
 }
 
-// Another node in the row i; the answer is whether there is such a row. A row whose state stays is found as before.
-pub fn put(rows: &mut [Row], i: usize, node: Node) -> bool
-    ensures value { result ≡ nat_lt i (length rows.old) }
-    ensures rows { MatchBool result (Put rows.old i node rows.new) (rows.new ≡ rows.old) }
+// Another node in the row i; none if there is no such row. A row whose state stays is found as before.
+pub fn put(rows: &mut [Row], i: usize, node: Node) -> Option<()>
+    ensures value { IsSome result ↔ (i < length rows.old) }
+    ensures rows { MatchOption result (rows.new ≡ rows.old) (λ done. Put rows.old i node rows.new) }
     ensures indexed { (n : ℕ) → (at rows.old i).node.state ≡ node.state → Indexed rows.old n → Indexed rows.new n }
 {
     if i >= rows.len() {
-        return false;
+        return None;
     }
     rows[i].node = node;
-    true
+    Some(())
 }
 
 // Puts the row i at the head of the chain of its state.
@@ -75,9 +73,7 @@ pub fn add(rows: &mut [Row], len: usize, node: Node) -> Option<usize>
     ensures value { result ≡ (if nat_lt len (length rows.old) then Some (len + 1) else None) }
     ensures rows { MatchOption result (rows.new ≡ rows.old) (λ n. Added rows.old len node rows.new) }
 {
-    if !put(rows, len, node) {
-        return None;
-    }
+    put(rows, len, node)?;
     link(rows, len);
     Some(len + 1)
 }

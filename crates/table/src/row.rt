@@ -1,9 +1,7 @@
-// The rows of a state table.
-ghost use Rattle.std.specs.Prelude.{◌≡◌};
-ghost use Rattle.table.specs.Rows.{blank_row};
+// The rows of a state table. They name one another by their indices: the table is lent, so nothing in it is allocated, and no row moves.
 
 // A state that a search has come to, and the cheapest way to it that is known.
-#[derive(Clone, Copy)]
+#[derive(Clone, Copy, Default)]
 pub struct Node {
     pub state: u64,
     // what the way costs, and how many actions it has
@@ -17,7 +15,7 @@ pub struct Node {
 }
 
 // Rows are put into chains by their states, so that a state is found without a walk over the table.
-#[derive(Clone, Copy)]
+#[derive(Clone, Copy, Default)]
 pub(crate) struct Link {
     // the row that was the latest to join the chain of this row's number
     pub(crate) head: Option<usize>,
@@ -25,33 +23,11 @@ pub(crate) struct Link {
     pub(crate) next: Option<usize>,
 }
 
-#[derive(Clone, Copy)]
+// What a new row holds to fill a table with before it is lent is of no account.
+#[derive(Clone, Copy, Default)]
 pub struct Row {
     pub node: Node,
     // where the state stands in the waiting list
     pub place: usize,
     pub(crate) link: Link,
-}
-
-impl Row {
-    // A row to fill a table with before it is lent; what it holds is of no account.
-    pub fn blank() -> Row
-        ensures { result ≡ blank_row }
-    {
-        Row {
-            node: Node {
-                state: 0,
-                cost: 0,
-                steps: 0,
-                from: 0,
-                action: 0,
-                settled: false,
-            },
-            place: 0,
-            link: Link {
-                head: None,
-                next: None,
-            },
-        }
-    }
 }

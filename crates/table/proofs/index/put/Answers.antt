@@ -1,8 +1,6 @@
-use Rattle.std.proofs.Common.{arith, rules}
-use Rattle.table.proofs.Chains.{put_done, put_indexed}
+use Rattle.std.proofs.Common.{arith}
+use Rattle.table.proofs.Chains.{put_indexed}
 use Rattle.table.proofs.index.put.Goals as goal
 
-pub returns : goal.returns
-returns c =
-    let rows = c.args.rows.now in
-    record { value = search rules; rows = put_done rows c.args.i (omega arith) c.args.node; indexed = put_indexed rows c.args.i (omega arith) c.args.node }
+pub returns-clause-indexed : goal.returns-clause-indexed
+returns-clause-indexed c = put_indexed c.args.rows.now c.args.i (omega arith) c.args.node
