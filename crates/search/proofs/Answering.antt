@@ -1,9 +1,10 @@
 -- A finished table answers for every list of actions.
 use Rattle.std.proofs.Common.{◌≡◌, ℕ, zero, suc, ◌+◌, ◌<◌, ◌≤◌, Bool, true, false, List, [], ◌∷◌, length, take, Some, None, Option, sym, refl, ap, ◌∙◌, subst, ⊎_elim, add-zero, add_assoc, arith}
-use Rattle.std.specs.Option.{option_map}
-use Rattle.std.specs.List.{ContainsAt as Has}
+use Rattle.std.specs.Option.{option_map, option_or}
+use Rattle.std.specs.List.{ContainsAt}
 use Rattle.std.proofs.ByRecursion.{has_append_right}
 use Rattle.std.proofs.lemmas.List.{length-take-le}
+use Rattle.std.proofs.lemmas.Option.{none-some}
 use Rattle.std.proofs.lemmas.Bool.{cases_lt, true≢false}
 use Rattle.domain.specs.Meaning.{Meaning, Limits}
 use Rattle.plans.specs.Plans.{after, RunsAll, cost_of, PlanFor, CompletePlan, Cheapest, LeastCost}
@@ -32,7 +33,7 @@ module _ (m : Meaning) (limits : Limits m) (nodes : ℕ → Node) (n : ℕ) (sol
   known_after plan r = let k = leads_on plan m.start 0 solved.start r in (k.0, (k.1.0, (k.1.1.0, omega (arith, k.1.1.1))))
 
   -- every reachable state is one of the rows' states
-  states_have : (k i : ℕ) → i < k → Has (states_of nodes k) (nodes i).state
+  states_have : (k i : ℕ) → i < k → ContainsAt (states_of nodes k) (nodes i).state
   states_have zero i h = absurd (omega arith)
   states_have (suc k) i h =
       ⊎_elim
@@ -44,7 +45,7 @@ module _ (m : Meaning) (limits : Limits m) (nodes : ℕ → Node) (n : ℕ) (sol
   at_most rows h = record {
     states = states_of nodes n;
     few = omega (arith, states_length nodes n);
-    all = λ s r. let k = known_after r.0 r.1.0 in subst (Has (states_of nodes n)) (k.1.1.0 ∙ r.1.1) (states_have n k.0 k.1.0);
+    all = λ s r. let k = known_after r.0 r.1.0 in subst (ContainsAt (states_of nodes n)) (k.1.1.0 ∙ r.1.1) (states_have n k.0 k.1.0);
   }
 
   module _ (goal : ℕ) where
@@ -101,7 +102,7 @@ module _ (m : Meaning) (limits : Limits m) (nodes : ℕ → Node) (n : ℕ) (sol
       whole_kind None c plan k e = (k, e)
       whole_kind (Some x) c plan k e = (k, e)
 
-      pub found_whole : (o : Option ℕ) (j : ℕ) (place : List ℕ) (len : ℕ) → CheapestEnd m goal false nodes n o → CheapestEnd m goal true nodes n (Some j) → Written m (nodes j) before place len → Found m goal n (option_map (λ i. (nodes i).cost) o) (Some (nodes j).cost) before place len
+      found_whole : (o : Option ℕ) (j : ℕ) (place : List ℕ) (len : ℕ) → CheapestEnd m goal false nodes n o → CheapestEnd m goal true nodes n (Some j) → Written m (nodes j) before place len → Found m goal n (option_map (λ i. (nodes i).cost) o) (Some (nodes j).cost) before place len
       found_whole o j place len one two w =
           let best = cheapest true j (take len place) two w.path in
           record {
@@ -110,14 +111,14 @@ module _ (m : Meaning) (limits : Limits m) (nodes : ℕ → Node) (n : ℕ) (sol
             shown = shown_way (option_map (λ i. (nodes i).cost) o) (Some (nodes j).cost) j place len two.0 (whole_kind (option_map (λ i. (nodes i).cost) o) (nodes j).cost (take len place) best.0 best.1) w;
           }
 
-      pub found_cut : (j : ℕ) (place : List ℕ) (len : ℕ) → CheapestEnd m goal false nodes n (Some j) → CheapestEnd m goal true nodes n None → Written m (nodes j) before place len → Found m goal n (Some (nodes j).cost) None before place len
+      found_cut : (j : ℕ) (place : List ℕ) (len : ℕ) → CheapestEnd m goal false nodes n (Some j) → CheapestEnd m goal true nodes n None → Written m (nodes j) before place len → Found m goal n (Some (nodes j).cost) None before place len
       found_cut j place len one two w = record {
         least = least_of false (Some j) one;
         least_complete = least_of true None two;
         shown = shown_way (Some (nodes j).cost) None j place len one.0 (cheapest false j (take len place) one w.path) w;
       }
 
-      pub found_none : CheapestEnd m goal false nodes n None → CheapestEnd m goal true nodes n None → Found m goal n None None before before 0
+      found_none : CheapestEnd m goal false nodes n None → CheapestEnd m goal true nodes n None → Found m goal n None None before before 0
       found_none one two =
           let size : length (take 0 before) ≡ 0 = length-take-le 0 before (omega arith) in
           record {
@@ -131,6 +132,22 @@ module _ (m : Meaning) (limits : Limits m) (nodes : ℕ → Node) (n : ℕ) (sol
               long = refl;
             };
           }
+
+      -- the row whose way is shown, if there is one
+      pub found_shown : (without with : Option ℕ) (j : ℕ) (place : List ℕ) (len : ℕ) → option_or with without ≡ Some j → CheapestEnd m goal false nodes n without → CheapestEnd m goal true nodes n with → Written m (nodes j) before place len → Found m goal n (option_map (λ i. (nodes i).cost) without) (option_map (λ i. (nodes i).cost) with) before place len
+      found_shown without (Some k) j place len e one two w = let same : k ≡ j = cc in found_whole without k place len one two (subst (λ i. Written m (nodes i) before place len) (sym same) w)
+      found_shown (Some k) None j place len e one two w = let same : k ≡ j = cc in found_cut k place len one two (subst (λ i. Written m (nodes i) before place len) (sym same) w)
+      found_shown None None j place len e one two w = absurd (none-some j e)
+
+      pub found_not : (without with : Option ℕ) → option_or with without ≡ None → CheapestEnd m goal false nodes n without → CheapestEnd m goal true nodes n with → Found m goal n (option_map (λ i. (nodes i).cost) without) (option_map (λ i. (nodes i).cost) with) before before 0
+      found_not without (Some k) e one two = absurd (none-some k (sym e))
+      found_not (Some k) None e one two = absurd (none-some k (sym e))
+      found_not None None e one two = found_none one two
+
+      pub shown_low : (without with : Option ℕ) (j : ℕ) → option_or with without ≡ Some j → CheapestEnd m goal false nodes n without → CheapestEnd m goal true nodes n with → j < n
+      shown_low without (Some k) j e one two = let same : k ≡ j = cc in omega (arith, two.0)
+      shown_low (Some k) None j e one two = let same : k ≡ j = cc in omega (arith, one.0)
+      shown_low None None j e one two = absurd (none-some j e)
 
 pub found_wider : (m : Meaning) (goal n rows : ℕ) (without with : Option ℕ) (before place : List ℕ) (len : ℕ) → n ≤ rows → Found m goal n without with before place len → Found m goal rows without with before place len
 found_wider m goal n rows without with before place len h f = record {

@@ -11,13 +11,13 @@ use Rattle.table.specs.declared.row.Row.{Row}
 use Rattle.table.specs.Index.{Indexed, Added}
 use Rattle.table.specs.Rows.{node}
 use Rattle.search.specs.declared.entry.Entry.{Entry}
-use Rattle.search.specs.Entries.{ordered, order, noted, apart, Kept}
+use Rattle.search.specs.Entries.{entry_of, ordered, order, noted, apart, Kept}
 use Rattle.search.specs.Searching.{Sound, Waits, Waiting, Searching, as_settled, Settled, Expanded}
 use Rattle.search.specs.Solved.{Solved, Exploring}
 use Rattle.search.specs.Ways.{Begins, Way, KnownAt, Closed}
 use Rattle.search.proofs.Nodes.{closed_over}
 use Rattle.search.proofs.Reaching.{kept_indexed}
-use Rattle.search.proofs.WaitingLists.{entry_of, waiting_pushed}
+use Rattle.search.proofs.WaitingLists.{waiting_pushed}
 
 -- nothing waits in a table that knows no row
 none_waits : (rows : List Row) (xs : List Entry) → length xs ≡ 0 → Waiting rows 0 xs
@@ -29,7 +29,13 @@ none_waits rows xs e = record {
 }
 
 -- The start alone.
-module _ (m : Meaning) (rows rows' rows'' : List Row) (list list' : List Entry) (w : ℕ) (v : Node) (begins : Begins m v) (unsettled : v.settled ≡ false) (small : length rows ≤ 4096) (long : length rows ≤ length list) (indexed : Indexed rows 0) (added : Added rows 0 v rows') (kept : Kept rows' rows'') (pushed : Pushed ordered 0 (entry_of v 0) w list list') (tracks : TracksPushed noted apart 0 (entry_of v 0) w list list' rows' rows'') where
+module _ (m : Meaning) (rows rows' rows'' : List Row) (list list' : List Entry) (w : ℕ) (v : Node) (x : Entry) (is : x ≡ entry_of v 0) (begins : Begins m v) (unsettled : v.settled ≡ false) (small : length rows ≤ 4096) (long : length rows ≤ length list) (indexed : Indexed rows 0) (added : Added rows 0 v rows') (kept : Kept rows' rows'') (pushed_x : Pushed ordered 0 x w list list') (tracks_x : TracksPushed noted apart 0 x w list list' rows' rows'') where
+  pushed : Pushed ordered 0 (entry_of v 0) w list list'
+  pushed = subst (λ y. Pushed ordered 0 y w list list') is pushed_x
+
+  tracks : TracksPushed noted apart 0 (entry_of v 0) w list list' rows' rows''
+  tracks = subst (λ y. TracksPushed noted apart 0 y w list list' rows' rows'') is tracks_x
+
   first : node rows'' 0 ≡ v
   first = kept.nodes 0 ∙ added.here
 

@@ -6,3 +6,4 @@ pub mod Settling
 pub mod Exploring
 pub mod Writing
 pub mod Answering
+mod Cheapest

@@ -1,7 +1,7 @@
 -- A way that is offered to the table: the first to its state, or a cheaper one.
-use Rattle.std.proofs.Common.{◌≡◌, ℕ, ◌+◌, ◌<◌, Bool, true, false, cond, List, length, get_or, take, Some, None, MatchBool, Option, sym, refl, ap, ◌∙◌, subst, ⊎_elim, arith, MatchOption}
+use Rattle.std.proofs.Common.{◌≡◌, ℕ, ◌+◌, ◌<◌, List, length, get_or, take, None, sym, refl, ap, ◌∙◌, subst, ⊎_elim, arith}
 use Rattle.std.proofs.lemmas.List.{get_or-take, length-take-le}
-use Rattle.std.proofs.lemmas.Bool.{cases_eq, true≢false}
+use Rattle.std.proofs.lemmas.Bool.{cases_eq}
 use Rattle.domain.specs.Meaning.{Meaning}
 use Rattle.heap.specs.Lowering.{Lowers, Lowered, TracksLowered}
 use Rattle.heap.specs.Pushing.{Pushed, TracksPushed}
@@ -11,23 +11,14 @@ use Rattle.table.specs.Index.{Indexed, Found, Put, Added}
 use Rattle.table.specs.Rows.{at, node}
 use Rattle.table.proofs.Chains.{indexed_over}
 use Rattle.search.specs.declared.entry.Entry.{Entry}
-use Rattle.search.specs.Entries.{ordered, order, noted, apart, Kept}
+use Rattle.search.specs.Entries.{entry_of, ordered, order, noted, apart, Kept}
 use Rattle.search.specs.Searching.{Sound, Waiting, Grew, Searching, Offered, Reached}
 use Rattle.search.specs.Ways.{KnownAt}
 use Rattle.search.proofs.Nodes.{grew_more, sound_more, waits_still, grew_cheaper, sound_cheaper}
-use Rattle.search.proofs.WaitingLists.{entry_of, waiting_pushed, place_within, place_cost, waiting_lowered, cheaper_low}
-
--- an answer that there is one tells which
-pub some_is : (b : Bool) (x y : ℕ) → ◌≡◌ {A = Option ℕ} (Some x) (cond b (Some y) None) → x ≡ y
-some_is true x y e = cc
-some_is false x y e = let z : ◌≡◌ {A = ℕ} 0 1 = cc in absurd (omega arith)
+use Rattle.search.proofs.WaitingLists.{waiting_pushed, place_within, place_cost, waiting_lowered, cheaper_low}
 
 pub kept_indexed : (rows rows' : List Row) (n : ℕ) → Kept rows rows' → Indexed rows n → Indexed rows' n
 kept_indexed rows rows' n kept = indexed_over rows rows' n kept.long (λ k. ap (λ v. v.state) (kept.nodes k)) kept.links
-
-pub when_true : (P Q : Type 0) (b : Bool) → b ≡ true → MatchBool b P Q → P
-when_true P Q true e h = h
-when_true P Q false e h = absurd (true≢false (sym e))
 
 -- the entry of a row that waits stands at the place that the row notes, and a cheaper one is not greater
 pub is_lower : (m : Meaning) (rows : List Row) (n : ℕ) (list : List Entry) (w level i : ℕ) (v : Node) → Searching m rows n list w level → Offered m (node rows) n w level v → i < n → v.cost < (node rows i).cost → Lowers order w (at rows i).place (entry_of v i) list
@@ -47,8 +38,10 @@ module _ (m : Meaning) (level : ℕ) (rows rows' rows'' : List Row) (n : ℕ) (l
   nodes_same : node rows'' ≡ node rows'
   nodes_same = λ i k. kept.nodes k i
 
-  pub discovered : (n' w' : ℕ) → n' ≡ n + 1 → Found rows n v.state None → Added rows n v rows' → Pushed ordered w (entry_of v n) w' list list' → TracksPushed noted apart w (entry_of v n) w' list list' rows' rows'' → Reached m level rows n w v rows'' n' list' w'
-  discovered n' w' more absent added pushed tracks =
+  pub discovered : (n' w' : ℕ) (x : Entry) → n' ≡ n + 1 → x ≡ entry_of v n → Found rows n v.state None → Added rows n v rows' → Pushed ordered w x w' list list' → TracksPushed noted apart w x w' list list' rows' rows'' → Reached m level rows n w v rows'' n' list' w'
+  discovered n' w' x more is absent added pushed_x tracks_x =
+      let pushed = subst (λ y. Pushed ordered w y w' list list') is pushed_x in
+      let tracks = subst (λ y. TracksPushed noted apart w y w' list list' rows' rows'') is tracks_x in
       let grew : Grew (node rows) n w (node rows'') (n + 1) (w + 1) = subst (λ f. Grew (node rows) n w f (n + 1) (w + 1)) (sym nodes_same) (grew_more (node rows) (node rows') n v added.here added.others m n w level refl offered absent s.sound) in
       let sound : Sound m (node rows'') (n + 1) (w + 1) level = subst (λ f. Sound m f (n + 1) (w + 1) level) (sym nodes_same) (sound_more (node rows) (node rows') n v added.here added.others m n w level refl offered absent s.sound) in
       let known : KnownAt (node rows'') (n + 1) v.state v.cost = subst (λ f. KnownAt f (n + 1) v.state v.cost) (sym nodes_same) (n, (omega arith, (ap (λ x. x.state) added.here, omega (arith, ap (λ x. x.cost) added.here)))) in
@@ -66,8 +59,10 @@ module _ (m : Meaning) (level : ℕ) (rows rows' rows'' : List Row) (n : ℕ) (l
       } in
       subst (λ k. Reached m level rows n w v rows'' k list' w') (sym more) (subst (λ k. Reached m level rows n w v rows'' (n + 1) list' k) (sym pushed.more) all)
 
-  pub improved : (i : ℕ) → i < n → v.state ≡ (node rows i).state → v.cost < (node rows i).cost → Put rows i v rows' → Lowered ordered w (at rows i).place (entry_of v i) list list' → TracksLowered noted apart w (at rows i).place (entry_of v i) list list' rows' rows'' → Reached m level rows n w v rows'' n list' w
-  improved i low same cheaper put lowered tracks =
+  pub improved : (i : ℕ) (x : Entry) → i < n → x ≡ entry_of v i → v.state ≡ (node rows i).state → v.cost < (node rows i).cost → Put rows i v rows' → Lowered ordered w (at rows i).place x list list' → TracksLowered noted apart w (at rows i).place x list list' rows' rows'' → Reached m level rows n w v rows'' n list' w
+  improved i x low is same cheaper put lowered_x tracks_x =
+      let lowered = subst (λ y. Lowered ordered w (at rows i).place y list list') is lowered_x in
+      let tracks = subst (λ y. TracksLowered noted apart w (at rows i).place y list list' rows' rows'') is tracks_x in
       let here : node rows' i ≡ v = put.here (omega (arith, s.indexed.fits)) in
       let others : (k : ℕ) → (k ≡ i → ⊥) → node rows' k ≡ node rows k = λ k u. ap (λ r. r.node) (put.others k u) in
       let states : (k : ℕ) → (node rows' k).state ≡ (node rows k).state = λ k. ⊎_elim (λ e. ap (λ r. (node rows' r).state) e ∙ ap (λ x. x.state) here ∙ same ∙ sym (ap (λ r. (node rows r).state) e)) (λ u. ap (λ x. x.state) (others k u)) (cases_eq k i) in
@@ -84,15 +79,3 @@ module _ (m : Meaning) (level : ℕ) (rows rows' rows'' : List Row) (n : ℕ) (l
         known = subst (λ f. KnownAt f n v.state v.cost) (sym nodes_same) (i, (low, (ap (λ x. x.state) here, omega (arith, ap (λ x. x.cost) here))));
         same_length = kept.long ∙ put.long;
       }
-
--- what holds of a refusal goes with what was known before
-pub refused_also : (r : Bool) (P Q R : Type 0) → R → MatchBool r P Q → MatchBool r P (Q × R)
-refused_also true P Q R k h = h
-refused_also false P Q R k h = (h, k)
-
-pub when_both : (r : Bool) (P P' Q Q' : Type 0) → (P → P') → (Q → Q') → MatchBool r P Q → MatchBool r P' Q'
-when_both true P P' Q Q' yes_so no_so h = yes_so h
-when_both false P P' Q Q' yes_so no_so h = no_so h
-
-pub cases_some : {X : Type 0} (r : Option X) (x : X) (P : Type 0) (Q : X → Type 0) → r ≡ Some x → MatchOption r P Q → Q x
-cases_some {X} r x P Q e h = subst (λ (o : Option X). MatchOption o P Q) e h

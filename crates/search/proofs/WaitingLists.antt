@@ -2,7 +2,7 @@
 use Rattle.std.proofs.Common.{◌≡◌, ℕ, zero, suc, ◌+◌, ◌<◌, ◌≤◌, Bool, true, false, cond, eqb, ltb, ◌⊎◌, List, [], ◌∷◌, length, get_or, set, Ordering, Less, Equal, Greater, sym, refl, ap, ◌∙◌, subst, inl, inr, ⊎_elim, arith}
 use Rattle.std.specs.Ordering.{is_lt, is_gt, ordering_then}
 use Rattle.std.specs.List.Sorted.{IsPermutation}
-use Rattle.std.specs.List.{ContainsAt as Has, AllByRecursion}
+use Rattle.std.specs.List.{ContainsAt, AllByRecursion}
 use Rattle.std.proofs.ByRecursion.{All-weaker, All-get_or, All-from_get_or, has_append_right, all_shuffled, has_shuffled}
 use Rattle.std.proofs.lemmas.List.{length-set, get_or-set_same, get_or-set_other}
 use Rattle.std.proofs.lemmas.Bool.{cases_eq, lt-ltb, ltb-false, true≢false}
@@ -14,12 +14,8 @@ use Rattle.table.specs.declared.row.Row.{Row}
 use Rattle.table.specs.Index.{Put, Added}
 use Rattle.table.specs.Rows.{at, node}
 use Rattle.search.specs.declared.entry.Entry.{Entry}
-use Rattle.search.specs.Entries.{ordered, order, noted, apart, Kept}
+use Rattle.search.specs.Entries.{entry_of, ordered, order, noted, apart, Kept}
 use Rattle.search.specs.Searching.{Waits, AllWait, Waiting}
-
--- the entry of a node in a row
-abbrev pub entry_of : Node → ℕ → Entry
-entry_of v i = record { cost = v.cost; state = v.state; row = i }
 
 no_entry : Entry
 no_entry = record { cost = 0; state = 0; row = 0 }
@@ -85,7 +81,7 @@ module _ (rows rows' rows'' : List Row) (n : ℕ) (v : Node) (xs ys : List Entry
 
 -- Where the entry of a row stands.
 module _ (rows : List Row) (n : ℕ) (xs : List Entry) (fits : n ≤ length rows) (waiting : Waiting rows n xs) (i : ℕ) (low : i < n) (unsettled : (node rows i).settled ≡ false) where
-  own : (e : Entry) × (Has xs e × (e.row ≡ i))
+  own : (e : Entry) × (ContainsAt xs e × (e.row ≡ i))
   own = waiting.all i low unsettled
 
   place_is : (at rows i).place ≡ own.1.0.0
@@ -191,7 +187,7 @@ module _ (rows rows' rows'' : List Row) (n : ℕ) (x : Entry) (v : Node) (xs ys 
       let y = get_or ys k no_entry in
       waits_over (node rows) (node rows'') n n (omega arith) y (node_away y.row (apart_both (suc k) 0 no_entry (omega arith) (omega arith) (omega arith))) (All-get_or (Waits (node rows) n) ys k no_entry h each_both.1))
 
-  in_tail : (y : Entry) → Has (x ∷ ys) y → (y ≡ x) ⊎ Has ys y
+  in_tail : (y : Entry) → ContainsAt (x ∷ ys) y → (y ≡ x) ⊎ ContainsAt ys y
   in_tail y (zero, h, e) = inl (sym (e no_entry))
   in_tail y (suc k, h, e) = inr (k, omega arith, e)
 

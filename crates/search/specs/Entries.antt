@@ -3,9 +3,14 @@ use Rattle.std.specs.Prelude.{◌≡◌, ℕ, ◌<◌, List, length}
 use Rattle.std.specs.declared.cmp.Ordering.{Ordering}
 use Rattle.std.specs.Cmp.{IsTotalOrder, nat_cmp_total, on_total, then_total}
 use Rattle.std.specs.Ordering.{nat_cmp, ordering_then}
+use Rattle.table.specs.declared.row.Node.{Node}
 use Rattle.table.specs.declared.row.Row.{Row}
 use Rattle.table.specs.Rows.{at}
 use Rattle.search.specs.declared.entry.Entry.{Entry}
+
+-- the entry of a node in a row
+abbrev pub entry_of : Node → ℕ → Entry
+entry_of v i = record { cost = v.cost; state = v.state; row = i }
 
 -- by cost, then by state, then by row
 abbrev pub ordered : Entry → Entry → Ordering

@@ -1,6 +1,6 @@
 -- What holds while a search goes on: n rows are known, w of them wait, and the others are settled.
 use Rattle.std.specs.Prelude.{◌≡◌, ℕ, ◌+◌, ◌-◌, ◌*◌, ◌<◌, ◌≤◌, true, false, List, length, take, ◌≢◌}
-use Rattle.std.specs.List.{ContainsAt as Has, AllByRecursion}
+use Rattle.std.specs.List.{ContainsAt, AllByRecursion}
 use Rattle.domain.specs.Meaning.{Meaning}
 use Rattle.heap.specs.Order.{HeapOrder}
 use Rattle.heap.specs.Tracking.{Tracked}
@@ -34,7 +34,7 @@ pub record Waits (nodes : ℕ → Node) (n : ℕ) (e : Entry) : Type 0 where
 
 -- every row that waits has an entry
 abbrev pub AllWait : (ℕ → Node) → ℕ → List Entry → Type 0
-AllWait nodes n entries = (i : ℕ) → i < n → (nodes i).settled ≡ false → (e : Entry) × (Has entries e × (e.row ≡ i))
+AllWait nodes n entries = (i : ℕ) → i < n → (nodes i).settled ≡ false → (e : Entry) × (ContainsAt entries e × (e.row ≡ i))
 
 -- The waiting list: the entries of the rows that wait, in heap order, and each row notes the place of its own.
 pub record Waiting (rows : List Row) (n : ℕ) (entries : List Entry) : Type 0 where

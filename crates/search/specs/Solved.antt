@@ -29,10 +29,14 @@ abbrev pub Ends : Meaning → ℕ → Bool → ℕ → Type 0
 Ends m goal false s = m.meets s goal ≡ true
 Ends m goal true s = (m.meets s goal ≡ true) × (m.complete s ≡ true)
 
+-- the cheapest of the first n rows with such a state, if there is one
+abbrev pub CheapestIn : (ℕ → Type 0) → (ℕ → Node) → ℕ → Option ℕ → Type 0
+CheapestIn Such nodes n None = (i : ℕ) → i < n → Such (nodes i).state → ⊥
+CheapestIn Such nodes n (Some j) = (j < n) × (Such (nodes j).state × ((i : ℕ) → i < n → Such (nodes i).state → (nodes j).cost ≤ (nodes i).cost))
+
 -- the cheapest of the first n rows in whose states a plan can end, if there is one
 abbrev pub CheapestEnd : Meaning → ℕ → Bool → (ℕ → Node) → ℕ → Option ℕ → Type 0
-CheapestEnd m goal whole nodes n None = (i : ℕ) → i < n → Ends m goal whole (nodes i).state → ⊥
-CheapestEnd m goal whole nodes n (Some j) = (j < n) × (Ends m goal whole (nodes j).state × ((i : ℕ) → i < n → Ends m goal whole (nodes i).state → (nodes j).cost ≤ (nodes i).cost))
+CheapestEnd m goal whole = CheapestIn (Ends m goal whole)
 
 -- the list of actions leads from the start to a node's state, at its cost
 pub record PathTo (m : Meaning) (v : Node) (plan : List ℕ) : Type 0 where

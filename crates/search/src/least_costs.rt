@@ -5,7 +5,7 @@ ghost use Rattle.table.specs.Rows.{node};
 ghost use Rattle.search.specs.Answers.{Suited, Found, Answered, TablesStay};
 ghost use Rattle.search.specs.Solved.{Solved};
 
-use crate::ends::cheapest_end;
+use crate::ends::cheapest_ends;
 use crate::entry::Entry;
 use crate::explore::explore;
 use crate::fault::SearchFault;
@@ -20,17 +20,6 @@ fn suited(rows: usize, waiting: usize, places: usize) -> bool
     1 <= rows && rows <= 4096 && rows <= waiting && rows <= places
 }
 
-// The cost of a row, if there is one.
-fn cost_at(rows: &[Row], row: Option<usize>) -> Option<u32>
-    requires { IfSome row (λ i. i < length rows.now) }
-    ensures { result ≡ option_map (λ i. (node rows.now i).cost) row }
-{
-    match row {
-        Some(i) => Some(rows[i].node.cost),
-        None => None,
-    }
-}
-
 // The costs and the plan from a finished table.
 fn answer<D: Domain>(
     domain: &D,
@@ -42,13 +31,14 @@ fn answer<D: Domain>(
     requires { Solved (D.meaning domain.now) (node rows.now) known × ((known ≤ length rows.now) × (known ≤ length plan.old)) }
     ensures { Found (D.meaning domain.now) goal known result.0.0 result.0.1 plan.old plan.new result.1 }
 {
-    let without = cheapest_end(domain, rows, known, goal, false);
-    let with = cheapest_end(domain, rows, known, goal, true);
-    let costs = (cost_at(rows, without), cost_at(rows, with));
-    let length = match (with, without) {
-        (Some(row), _) => write_plan(rows, row, plan),
-        (None, Some(row)) => write_plan(rows, row, plan),
-        (None, None) => 0,
+    let (without, with) = cheapest_ends(domain, rows, known, goal);
+    let costs = (
+        without.map(|i| rows[i].node.cost),
+        with.map(|i| rows[i].node.cost),
+    );
+    let length = match with.or(without) {
+        Some(row) => write_plan(rows, row, plan),
+        None => 0,
     };
     (costs, length)
 }
@@ -72,8 +62,6 @@ pub fn least_costs<D: Domain>(
     if !suited(table.len(), waiting.len(), plan.len()) {
         return Err(SearchFault::Tables);
     }
-    match explore(domain, table, waiting) {
-        Some(known) => Ok(answer(domain, table, known, goal, plan)),
-        None => Err(SearchFault::Rows),
-    }
+    let known = explore(domain, table, waiting)?;
+    Ok(answer(domain, table, known, goal, plan))
 }

@@ -13,6 +13,7 @@ pub(crate) fn write_plan(rows: &[Row], row: usize, plan: &mut [u8]) -> usize
 {
     let length = rows[row].node.steps;
     let mut at = row;
+    // by number: a proof does not know what is written through `iter_mut().rev()`
     for k in (0..length).rev() {
         let node = rows[at].node;
         plan[k] = node.action;

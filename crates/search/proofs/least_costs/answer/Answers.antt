@@ -1,48 +1,37 @@
-use Rattle.std.proofs.Common.{true, false, ap, ◌∙◌, subst}
-use Rattle.std.specs.Option.{option_map}
+use Rattle.std.proofs.Common.{sym, ◌∙◌, rules}
 use Rattle.table.specs.Rows.{node}
-use Rattle.search.specs.Solved.{CheapestEnd}
-use Rattle.search.proofs.Answering.{found_whole, found_cut, found_none, found_same}
+use Rattle.search.proofs.Answering.{found_shown, found_not, shown_low, found_same}
 use Rattle.search.proofs.least_costs.answer.Goals as goal
 
-pub returns-in-Some-default : goal.returns-in-Some-default
-returns-in-Some-default g c =
+pub write_plan-length-requires : goal.write_plan-length-requires
+write_plan-length-requires g c =
     let d = c.args.domain.now in
     let m = g.D.Domain.meaning d in
-    let f = node c.args.rows.now in
-    let n = c.args.known in
-    let goal = c.args.goal in
-    let before = c.args.plan.now in
-    let place = c.write_plan-length.new.plan in
-    let len = c.write_plan-length.result in
-    let with = subst (λ o. CheapestEnd m goal true f n o) c.in-Some-default.is-0 c.cheapest_end-with.ensures in
-    found_same m goal n _ _ _ _ before place len c.cost_at.ensures (c.cost_at-2.ensures ∙ ap (option_map (λ i. (f i).cost)) c.in-Some-default.is-0)
-    (found_whole m (g.met.D.Domain.limits d) f n c.requires.0 goal before c.cheapest_end-without.result c.in-Some-default.row place len c.cheapest_end-without.ensures with (c.write_plan-length.ensures m n c.requires.0 with.0))
+    let ends = c.cheapest_ends-without.ensures in
+    (m, (c.args.known, (c.requires.0, (shown_low m (g.met.D.Domain.limits d) (node c.args.rows.now) c.args.known c.requires.0 c.args.goal c.args.plan.now _ _ c.in-Some.row (sym c.or.ensures ∙ c.in-Some.is) ends.without ends.with, c.requires.1))))
 
-pub returns-in-None-Some : goal.returns-in-None-Some
-returns-in-None-Some g c =
+pub returns-in-Some : goal.returns-in-Some
+returns-in-Some g c =
     let d = c.args.domain.now in
     let m = g.D.Domain.meaning d in
+    let limits = g.met.D.Domain.limits d in
     let f = node c.args.rows.now in
     let n = c.args.known in
+    let solved = c.requires.0 in
     let goal = c.args.goal in
     let before = c.args.plan.now in
-    let place = c.write_plan-length-in-None-Some.new.plan in
-    let len = c.write_plan-length-in-None-Some.result in
-    let with = subst (λ o. CheapestEnd m goal true f n o) c.in-None-Some.is-0 c.cheapest_end-with.ensures in
-    let without = subst (λ o. CheapestEnd m goal false f n o) c.in-None-Some.is-1 c.cheapest_end-without.ensures in
-    found_same m goal n _ _ _ _ before place len (c.cost_at.ensures ∙ ap (option_map (λ i. (f i).cost)) c.in-None-Some.is-1) (c.cost_at-2.ensures ∙ ap (option_map (λ i. (f i).cost)) c.in-None-Some.is-0)
-    (found_cut m (g.met.D.Domain.limits d) f n c.requires.0 goal before c.in-None-Some.row place len without with (c.write_plan-length-in-None-Some.ensures m n c.requires.0 without.0))
+    let row = c.in-Some.row in
+    let ends = c.cheapest_ends-without.ensures in
+    let is = sym c.or.ensures ∙ c.in-Some.is in
+    let low = shown_low m limits f n solved goal before _ _ row is ends.without ends.with in
+    let found = found_shown m limits f n solved goal before _ _ row _ _ is ends.without ends.with (c.write_plan-length.ensures m n solved low) in
+    found_same m goal n _ _ _ _ before c.write_plan-length.new.plan c.write_plan-length.result (search rules) (search rules) found
 
-pub returns-in-None-None : goal.returns-in-None-None
-returns-in-None-None g c =
+pub returns-in-None : goal.returns-in-None
+returns-in-None g c =
     let d = c.args.domain.now in
     let m = g.D.Domain.meaning d in
-    let f = node c.args.rows.now in
-    let n = c.args.known in
-    let goal = c.args.goal in
     let before = c.args.plan.now in
-    let with = subst (λ o. CheapestEnd m goal true f n o) c.in-None-None.is-0 c.cheapest_end-with.ensures in
-    let without = subst (λ o. CheapestEnd m goal false f n o) c.in-None-None.is-1 c.cheapest_end-without.ensures in
-    found_same m goal n _ _ _ _ before before 0 (c.cost_at.ensures ∙ ap (option_map (λ i. (f i).cost)) c.in-None-None.is-1) (c.cost_at-2.ensures ∙ ap (option_map (λ i. (f i).cost)) c.in-None-None.is-0)
-    (found_none m (g.met.D.Domain.limits d) f n c.requires.0 goal before without with)
+    let ends = c.cheapest_ends-without.ensures in
+    let found = found_not m (g.met.D.Domain.limits d) (node c.args.rows.now) c.args.known c.requires.0 c.args.goal before _ _ (sym c.or.ensures ∙ c.in-None.is) ends.without ends.with in
+    found_same m c.args.goal c.args.known _ _ _ _ before before 0 (search rules) (search rules) found

@@ -1,6 +1,14 @@
-use Rattle.search.proofs.Reaching.{some_is, discovered}
+use Rattle.std.proofs.Common.{sym, ◌∙◌}
+use Rattle.std.proofs.lemmas.Option.{MatchOption-at_some, cond_some}
+use Rattle.search.proofs.Reaching.{discovered}
 use Rattle.search.proofs.reach.discover.Goals as goal
 
-pub returns-in-Some-push : goal.returns-in-Some-push
-returns-in-Some-push c = λ m level s offered absent.
-    discovered m level c.args.rows.now c.add.new.rows c.push.new.rows c.args.progress.now.known c.args.list.now c.push.new.list c.args.progress.now.waiting c.args.way c.push.ensures.kept s offered c.in-Some.known c.in-Some-push.waiting (some_is _ _ _ c.in-Some.ensures.value) absent c.in-Some.ensures.rows c.in-Some-push.ensures.pushed c.in-Some-push.ensures.tracked
+pub returns : goal.returns
+returns c = λ m level s offered absent.
+    let known = c.in_ok-known.known in
+    let waiting = c.in_ok-waiting.waiting in
+    let added = c.in_ok-known.ensures.ok_part in
+    let pushed = c.in_ok-waiting.ensures.ok_part in
+    discovered m level c.args.rows.now c.add.new.rows c.push.new.rows c.args.progress.now.known c.args.list.now c.push.new.list c.args.progress.now.waiting c.args.way c.push.ensures.kept s offered known waiting c.new-entry.result
+    (sym (cond_some _ _ _ (sym c.add.ensures.value ∙ added)).1) c.new-entry.ensures absent
+    (MatchOption-at_some _ _ known added c.add.ensures.rows) (MatchOption-at_some _ _ waiting pushed c.push.ensures.pushed) (MatchOption-at_some _ _ waiting pushed c.push.ensures.tracked)

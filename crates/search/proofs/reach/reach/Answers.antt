@@ -1,11 +1,11 @@
 use Rattle.std.proofs.Common.{sym}
-use Rattle.search.proofs.Reaching.{refused_also}
+use Rattle.std.proofs.lemmas.Result.{MatchResult-weaker}
 use Rattle.search.proofs.reach.reach.Goals as goal
 
 pub returns-in-None : goal.returns-in-None
 returns-in-None c = λ m level s offered.
     let absent = c.in-None.ensures.found s.indexed in
-    refused_also c.discover.result _ _ _ absent (c.discover.ensures m level s offered absent)
+    MatchResult-weaker c.discover.result (c.discover.ensures m level s offered absent) (λ done h. h) (λ fault h. (h.0, h.1, absent))
 
 pub returns-then-way-rows : goal.returns-then-way-rows
 returns-then-way-rows c = λ m level s offered.

@@ -1,7 +1,7 @@
 use Rattle.std.proofs.Common.{◌≡◌, ◌+◌, false, sym, refl, ap, ◌∙◌}
+use Rattle.std.proofs.lemmas.Result.{MatchResult-weaker}
 use Rattle.table.specs.declared.row.Node.{Node}
 use Rattle.table.specs.Rows.{node}
-use Rattle.search.proofs.Reaching.{when_both}
 use Rattle.search.proofs.Settling.{offers, expand_steps, expand_full, expand_stays}
 use Rattle.search.proofs.settle.offer.Goals as goal
 
@@ -32,7 +32,6 @@ returns g c = λ before n w low settled is so.
     let steps : v.steps ≡ (node before i).steps + 1 = ap (λ (x : Node). x.steps + 1) is in
     let away : v.state ≡ (node before i).state → ⊥ = λ e. c.if-state-here.false (e ∙ sym (ap (λ (x : Node). x.state) is)) in
     let offered = offers m limits before n w i low settled rows k list u a so v state cost steps refl refl refl away in
-    when_both c.reach.result _ _ _ _
-    (λ h. expand_steps m limits before n w i low settled rows k list u a so v state cost steps refl refl refl away _ _ _ _ h)
-    (λ h. expand_full m limits before n w i low settled rows k list u a so v state cost steps refl refl refl away h.0 h.1)
-    (c.reach.ensures m (node before i).cost so.searching offered)
+    MatchResult-weaker c.reach.result (c.reach.ensures m (node before i).cost so.searching offered)
+    (λ done h. expand_steps m limits before n w i low settled rows k list u a so v state cost steps refl refl refl away _ _ _ _ h)
+    (λ fault h. (h.0, expand_full m limits before n w i low settled rows k list u a so v state cost steps refl refl refl away h.1 h.2))
