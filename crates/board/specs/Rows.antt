@@ -1,5 +1,6 @@
 -- The rows of a board.
-use Rattle.std.specs.Prelude.{◌≡◌, ℕ, ◌<◌, Bool, true, false, List, length, Some, None, Option, nat_eq, nat_lt, slice_index_or}
+use Rattle.std.specs.Prelude.{◌≡◌, ℕ, Bool, true, false, List, Some, None, Option, nat_eq, nat_lt}
+use Rattle.std.specs.List.{All}
 use Rattle.plans.specs.declared.verdict.Verdict.{Verdict}
 use Rattle.plans.specs.declared.verdict.Verdict.TheVariants as verdicts
 use Rattle.plans.specs.Verdicts.{verdict_of}
@@ -40,4 +41,4 @@ abbrev pub agrees : BoardRow → Bool
 agrees row = fits row.verdict row.without row.with
 
 abbrev pub AllAgree : List BoardRow → Type 0
-AllAgree rows = (k : ℕ) (d : BoardRow) → k < length rows → agrees (slice_index_or rows k d) ≡ true
+AllAgree = All (λ row. agrees row ≡ true)

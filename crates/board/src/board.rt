@@ -4,7 +4,7 @@ ghost use Rattle.board.specs.Rows.{AllAgree};
 
 use crate::row::BoardRow;
 
-#[derive(Clone, Copy)]
+#[derive(Clone, Copy, PartialEq, Eq, Debug)]
 pub struct Board {
     pub(crate) rows: [BoardRow; 32],
     ghost long: { length rows ≡ 32 },

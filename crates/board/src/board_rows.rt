@@ -20,8 +20,7 @@ impl Board {
     pub fn row(&self, goal: u8) -> Option<BoardRow>
         ensures { result ≡ slice_get self.now.rows goal }
     {
-        let at = usize::from(goal);
-        if at < 32 { Some(self.rows[at]) } else { None }
+        self.rows.get(usize::from(goal)).copied()
     }
 
     // Opens all rows.
@@ -38,8 +37,9 @@ impl Board {
     {
         if goal < 32 && row.agrees() {
             self.rows[usize::from(goal)] = row;
-            return true;
+            true
+        } else {
+            false
         }
-        false
     }
 }

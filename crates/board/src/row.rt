@@ -4,8 +4,8 @@ ghost use Rattle.board.specs.Rows.{open_row, judged_row, agrees};
 
 use plans::verdict::Verdict;
 
-// A row is open, or holds a verdict and the costs that exist.
-#[derive(Clone, Copy, PartialEq, Eq, Debug)]
+// A row is open, or holds a verdict and the costs that exist. The default is the open row.
+#[derive(Clone, Copy, PartialEq, Eq, Debug, Default)]
 pub struct BoardRow {
     // none while the row is open
     pub verdict: Option<Verdict>,
@@ -18,11 +18,7 @@ impl BoardRow {
     pub fn open() -> BoardRow
         ensures { result ≡ open_row }
     {
-        BoardRow {
-            verdict: None,
-            without: None,
-            with: None,
-        }
+        BoardRow::default()
     }
 
     // The row of two least costs, with the verdict on them.

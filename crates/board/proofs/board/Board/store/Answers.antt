@@ -1,11 +1,7 @@
-use Rattle.std.proofs.Common.{sym, ◌∙◌, arith, length-set}
-use Rattle.board.proofs.Agreeing.{agree_set}
+use Rattle.std.proofs.Common.{◌≡◌, true, sym}
+use Rattle.std.proofs.lemmas.List.Elements.{All-set}
+use Rattle.board.specs.Rows.{agrees}
 use Rattle.board.proofs.board.Board.store.Goals as goal
 
-pub invariant_of-self : goal.invariant_of-self
-invariant_of-self c =
-    let board = c.args.self.now in
-    record {
-      long = length-set board.rows c.from.result c.args.row ∙ board.long;
-      agree = agree_set board.rows c.from.result c.args.row (omega (arith, board.long)) (sym c.if-agrees.ensures) board.agree;
-    }
+pub invariant_of-self-clause-agree : goal.invariant_of-self-clause-agree
+invariant_of-self-clause-agree c = All-set (λ row. agrees row ≡ true) c.args.self.now.rows _ c.args.row (sym c.if-agrees.ensures) c.args.self.now.agree
