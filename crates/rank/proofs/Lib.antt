@@ -1,6 +1,5 @@
 mod Entries
 mod Taking
-mod Shuffles
 mod Orders
 mod Unique
 mod Rankings
