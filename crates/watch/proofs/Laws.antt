@@ -35,28 +35,13 @@ module _ (d : Meaning) (log log' : List ℕ) (rows rows' : List BoardRow) (long 
   pub retract_law : r ≡ of_log (drop_outcome log) → log' ≡ log_after d log retract → RowsAfter rows (retract, numbered watch_number r) rows' → Then d (retract, numbered watch_number r) log rows log' rows'
   retract_law value is after run ran = carried_on d run log log' rows rows' ran long (retract, numbered watch_number r) (ap (numbered watch_number) value ∙ same_number (drop_outcome log)) is after
 
--- The row of a right report agrees with itself: a complete plan is a plan, so the second cost is never less than the first.
-module _ (m : Meaning) (g : ℕ) where
-  costs_rise : (c e : ℕ) → LeastCost m (PlanFor m g) (Some c) → LeastCost m (CompletePlan m g) (Some e) → c ≤ e
-  costs_rise c e one two = omega (arith, one.1.1, two.1.1, one.1.0.least two.0 two.1.0.of_kind.plan_for)
-
-  both_agree : (c e : ℕ) (b : Bool) → eqb c e ≡ b → c ≤ e → agrees (record { verdict = Some (cond b verdicts.Stands verdicts.CostsMore); without = Some c; with = Some e }) ≡ true
-  both_agree c e true k h = k
-  both_agree c e false k h = let other : c ≡ e → ⊥ = eqb-false c e k in lt-ltb c e (omega arith)
-
-  pub judged_agrees : (without with : Option ℕ) → LeastCost m (PlanFor m g) without → LeastCost m (CompletePlan m g) with → agrees (judged_row without with) ≡ true
-  judged_agrees None None one two = refl
-  judged_agrees None (Some e) one two = absurd (one two.0 two.1.0.of_kind.plan_for)
-  judged_agrees (Some c) None one two = refl
-  judged_agrees (Some c) (Some e) one two = both_agree c e (eqb c e) refl (costs_rise c e one two)
-
 -- A report.
-module _ (d : Meaning) (limits : Limits d) (log : List ℕ) (rows rows' : List BoardRow) (long : length rows ≡ 32) (goal : ℕ) (s : Sizes) (before place : List ℕ) where
+module _ (d : Meaning) (limits : Limits d) (log log' : List ℕ) (rows rows' : List BoardRow) (long : length rows ≡ 32) (goal : ℕ) (s : Sizes) (before place : List ℕ) where
   right_answer : (run : List Event) → log ≡ book d run → (r : Result report.Report WatchFault) → Reported (present d log) goal s before place r → Right d log (calls.report goal s, report_answer place r)
   right_answer run is (Ok r) told = right_report d log goal s r.without r.with r.verdict before place r.length (subst (Watchable d) (sym is) (watchable d run limits)) told.1 told.0
   right_answer run is (Err (Search fault)) told = (fault, (refl, told.0))
   right_answer run is (Err (Log fault)) told = absurd told
   right_answer run is (Err (Rank fault)) told = absurd told
 
-  pub report_law : (r : Result report.Report WatchFault) → Reported (present d log) goal s before place r → RowsAfter rows (calls.report goal s, report_answer place r) rows' → Then d (calls.report goal s, report_answer place r) log rows log rows'
-  report_law r told after run ran = carried_on d run log log rows rows' ran long (calls.report goal s, report_answer place r) (right_answer run ran.logged r told) refl after
+  pub report_law : (r : Result report.Report WatchFault) → Reported (present d log) goal s before place r → log' ≡ log → RowsAfter rows (calls.report goal s, report_answer place r) rows' → Then d (calls.report goal s, report_answer place r) log rows log' rows'
+  report_law r told is after run ran = carried_on d run log log' rows rows' ran long (calls.report goal s, report_answer place r) (right_answer run ran.logged r told) is after

@@ -1,5 +1,5 @@
 -- A list of calls, one after another.
-use Rattle.std.proofs.Common.{◌≡◌, ℕ, ◌-◌, ◌≤◌, min, List, ◌++◌, length, take, Ok, Err, Result, sym, refl, ap, ◌∙◌, subst, arith}
+use Rattle.std.proofs.Common.{◌≡◌, ℕ, ◌-◌, ◌≤◌, min, List, ◌++◌, length, take, Ok, Err, Option, Result, sym, refl, ap, ◌∙◌, subst, arith}
 use Rattle.std.proofs.lemmas.Grind.{common_steps}
 use lib.Seq.{take-append-le}
 use Rattle.board.specs.declared.row.BoardRow.{BoardRow}
@@ -7,7 +7,9 @@ use Rattle.domain.specs.Meaning.{Meaning}
 use Rattle.search.specs.Answers.{Sizes}
 use Rattle.watch.specs.declared.fault.WatchFault.{WatchFault}
 use Rattle.watch.specs.declared.report.Report as report
+use Rattle.watch.specs.declared.call.Request.{Request}
 use Rattle.watch.specs.Calls as calls
+use Rattle.watch.specs.Lists.{cut_to, plan_answer}
 use Rattle.watch.specs.Reporting.{Reported, report_answer}
 use Rattle.watch.specs.Runs.{Then}
 
@@ -17,16 +19,14 @@ answer_front m goal s before part post (Ok r) fits told =
     ap (λ plan. Ok (record { verdict = r.verdict; without = r.without; with = r.with; plan = plan })) (take-append-le r.length part post (omega (arith, told.0.found.shown.short, told.0.suited.places)))
 answer_front m goal s before part post (Err fault) fits told = refl
 
-pub same_sizes : (a b c x y z : ℕ) → a ≡ x → b ≡ y → c ≡ z → ◌≡◌ {A = Sizes} (record { rows = a; waiting = b; places = c }) (record { rows = x; waiting = y; places = z })
-same_sizes a b c x y z p q r = λ i. record { rows = p i; waiting = q i; places = r i }
-
 -- the front of a place, as long as is asked for where the place has that much
-pub cut_length : {X : Type 0} (xs : List X) (asked long k : ℕ) → length xs ≡ long → k ≡ min asked long → length (take (k - 0) xs) ≡ min asked long
-cut_length xs asked long k e f = grind (arith, common_steps)
+cut_length : {X : Type 0} (xs : List X) (asked k : ℕ) → k ≡ min asked (length xs) → length (take k xs) ≡ min asked (length xs)
+cut_length xs asked k e = grind (arith, common_steps)
 
-module _ (d m : Meaning) (log log' : List ℕ) (rows rows' : List BoardRow) (goal : ℕ) (s t : Sizes) (before part post : List ℕ) (r : Result report.Report WatchFault) (answer : Result calls.Report ℕ) where
+pub sizes_cut : {X Y : Type 0} (table : List X) (waiting : List Y) (plan : List ℕ) (q : Request) (a b c : ℕ) → a ≡ min q.rows (length table) → b ≡ min q.waiting (length waiting) → c ≡ min q.places (length plan) → calls.sizes_of (take a table) (take b waiting) (take c plan) ≡ cut_to (calls.sizes_of table waiting plan) q
+sizes_cut table waiting plan q a b c e f g = λ i. record { rows = cut_length table q.rows a e i; waiting = cut_length waiting q.waiting b f i; places = cut_length plan q.places c g i }
+
+module _ (d m : Meaning) (log log' : List ℕ) (rows rows' : List BoardRow) (goal : ℕ) (s t : Sizes) (before part post : List ℕ) (r : Result report.Report WatchFault) (answer : Result (Option report.Report) WatchFault) where
   -- a report on parts of the places that are lent
-  pub report_cut : s ≡ t → s.places ≤ length part → Reported m goal s before part r → answer ≡ report_answer (part ++ post) r → Then d (calls.report goal s, report_answer part r) log rows log' rows' → Then d (calls.report goal t, answer) log rows log' rows'
-  report_cut sizes fits told is law =
-      subst (λ a. Then d (calls.report goal t, a) log rows log' rows') (sym (is ∙ answer_front m goal s before part post r fits told))
-      (subst (λ k. Then d (calls.report goal k, report_answer part r) log rows log' rows') sizes law)
+  pub report_cut : s ≡ t → s.places ≤ length part → Reported m goal s before part r → ((plan : List ℕ) → plan_answer answer plan ≡ report_answer plan r) → Then d (calls.report goal s, report_answer part r) log rows log' rows' → Then d (calls.report goal t, plan_answer answer (part ++ post)) log rows log' rows'
+  report_cut sizes fits told is law = rw (is (part ++ post), answer_front m goal s before part post r fits told, ← sizes) law

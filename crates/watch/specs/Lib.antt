@@ -6,3 +6,4 @@ pub mod Reports
 pub mod Reporting
 pub mod Runs
 pub mod Lists
+pub mod Kept

@@ -1,9 +1,10 @@
 // Calls in a list, and places for their answers.
+use crate::fault::WatchFault;
 use crate::report::Report;
 
 // A report is made on the first rows of a table, the first places of a waiting list and the first places of a plan place,
 // as many as there are of each where it names more.
-#[derive(Clone, Copy)]
+#[derive(Clone, Copy, PartialEq, Eq, Debug)]
 pub struct Request {
     pub goal: u8,
     pub rows: usize,
@@ -11,24 +12,19 @@ pub struct Request {
     pub places: usize,
 }
 
-#[derive(Clone, Copy)]
+#[derive(Clone, Copy, PartialEq, Eq, Debug)]
 pub enum Call {
     Note(u8),
     Retract,
     Report(Request),
 }
 
-#[derive(Clone, Copy)]
-pub enum Answer {
-    // the call was accepted, and is no report
-    Done,
-    Reported(Report),
-    // refused with this number
-    Refused(u8),
-}
+// What a call answers: a report where it is one, or why it was refused.
+pub type Answer = Result<Option<Report>, WatchFault>;
 
 // A place for an answer, and for the plan of a report. A plan has fewer actions than a table may have rows.
-#[derive(Clone, Copy)]
+// A lent place and no list of the plan's length, which stands in the report: a call allocates nothing.
+#[derive(Clone, Copy, PartialEq, Eq, Debug)]
 pub struct Slot {
     pub answer: Answer,
     pub plan: [u8; 4096],

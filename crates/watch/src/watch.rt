@@ -1,5 +1,6 @@
 // A watch over a domain.
 use board::board::Board;
+use std::marker::Model;
 use watched::watched::Watched;
 
 // The domain with its log, and what the last reports on its goals said.
@@ -7,4 +8,14 @@ use watched::watched::Watched;
 pub struct Watch<D> {
     pub(crate) watched: Watched<D>,
     pub(crate) board: Board,
+}
+
+// A contract sees the domain, the entries of the log, and the rows.
+impl<D> Model for Watch<D> {
+    ghost use Rattle.logs.specs.Entries.{entries};
+    ghost use Rattle.watch.specs.Kept.{Kept};
+
+    ghost Value = { Kept D };
+
+    ghost view = { λ w. record { domain = w.watched.domain; log = entries w.watched.log; rows = w.board.rows } };
 }

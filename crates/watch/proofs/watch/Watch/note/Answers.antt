@@ -1,15 +1,13 @@
-use Rattle.logs.specs.Entries.{entries}
+use Rattle.std.proofs.Common.{rules, ◌≡◌, length, Ok}
 use Rattle.watch.proofs.Laws.{note_law}
 use Rattle.watch.proofs.watch.Watch.note.Goals as goal
 
-pub returns : goal.returns
-returns g c =
-    let self = c.args.self.now in
-    let told = c.add.ensures in
-    record {
-      value = told.value;
-      log = told.log;
-      rows = told.rows;
-      domain = told.domain;
-      law = note_law (g.D.Domain.meaning self.watched.domain) (entries self.watched.log) (entries c.add.new.self.watched.log) self.board.rows c.add.new.self.board.rows self.board.long c.add.result c.args.action told.value told.log told.rows;
-    }
+pub returns-in_err-add_entry-clause-law : goal.returns-in_err-add_entry-clause-law
+returns-in_err-add_entry-clause-law g c =
+    let long : length c.args.self.now.rows ≡ 32 = rw (← c.self.view_is) c.self.inside.board.long in
+    note_law _ _ _ _ _ long c.from_residual.result c.args.action (search rules) (search rules) (search rules)
+
+pub returns-clause-law : goal.returns-clause-law
+returns-clause-law g c =
+    let long : length c.args.self.now.rows ≡ 32 = rw (← c.self.view_is) c.self.inside.board.long in
+    note_law _ _ _ _ _ long (Ok tt) c.args.action (search rules) (search rules) (search rules)

@@ -1,25 +1,19 @@
-use Rattle.std.proofs.Common.{length, sym, ap, subst}
-use Rattle.logs.specs.Entries.{entries}
-use Rattle.search.specs.Answers.{Sizes}
-use Rattle.watched.specs.declared.watched.Watched.{Watched}
-use Rattle.watch.specs.Calls.{report}
-use Rattle.watch.specs.Reporting.{report_answer}
-use Rattle.watch.specs.Runs.{Then}
+use Rattle.std.proofs.Common.{rules, ◌≡◌, length, Ok, Result}
+use Rattle.watch.specs.declared.fault.WatchFault.{WatchFault}
+use Rattle.watch.specs.declared.report.Report.{Report}
+use Rattle.watch.specs.Calls.{sizes_of}
 use Rattle.watch.proofs.Laws.{report_law}
 use Rattle.watch.proofs.watch.Watch.report.Goals as goal
 
-pub returns : goal.returns
-returns g c =
+pub returns-in_err-costs-clause-law : goal.returns-in_err-costs-clause-law
+returns-in_err-costs-clause-law g c =
     let self = c.args.self.now in
-    let told = c.judge.ensures in
-    let d = g.D.Domain.meaning self.watched.domain in
-    let sizes : Sizes = record { rows = length c.args.table.now; waiting = length c.args.waiting.now; places = length c.args.plan.now } in
-    record {
-      reported = told.reported;
-      rows = told.rows;
-      watched = told.watched;
-      tables = told.tables;
-      waiting = told.waiting;
-      law = subst (λ after. Then d (report c.args.goal sizes, report_answer c.judge.new.plan c.judge.result) (entries self.watched.log) self.board.rows (entries after) c.judge.new.self.board.rows) (sym (ap (λ (w : Watched _). w.log) told.watched))
-          (report_law d (g.met.D.Domain.limits self.watched.domain) (entries self.watched.log) self.board.rows c.judge.new.self.board.rows self.board.long c.args.goal sizes c.args.plan.now c.judge.new.plan c.judge.result told.reported told.rows);
-    }
+    let long : length self.rows ≡ 32 = rw (← c.self.view_is) c.self.inside.board.long in
+    report_law _ (g.met.D.Domain.limits self.domain) self.log _ self.rows _ long c.args.goal (sizes_of c.args.table.now c.args.waiting.now c.args.plan.now) c.args.plan.now c.least_costs.new.plan c.from_residual.result (search rules) (search rules) (search rules)
+
+pub returns-clause-law : goal.returns-clause-law
+returns-clause-law g c =
+    let self = c.args.self.now in
+    let long : length self.rows ≡ 32 = rw (← c.self.view_is) c.self.inside.board.long in
+    let report : Result Report WatchFault = Ok (record { verdict = c.of.result; without = c.in_ok-costs.costs.0; with = c.in_ok-costs.costs.1; length = c.in_ok-costs.length }) in
+    report_law _ (g.met.D.Domain.limits self.domain) self.log _ self.rows _ long c.args.goal (sizes_of c.args.table.now c.args.waiting.now c.args.plan.now) c.args.plan.now c.least_costs.new.plan report (search rules) (search rules) (search rules)

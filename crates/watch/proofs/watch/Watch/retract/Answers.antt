@@ -1,15 +1,13 @@
-use Rattle.logs.specs.Entries.{entries}
+use Rattle.std.proofs.Common.{rules, ◌≡◌, length, Ok}
 use Rattle.watch.proofs.Laws.{retract_law}
 use Rattle.watch.proofs.watch.Watch.retract.Goals as goal
 
-pub returns : goal.returns
-returns g c =
-    let self = c.args.self.now in
-    let told = c.drop_last.ensures in
-    record {
-      value = told.value;
-      log = told.log;
-      rows = told.rows;
-      domain = told.domain;
-      law = retract_law (g.D.Domain.meaning self.watched.domain) (entries self.watched.log) (entries c.drop_last.new.self.watched.log) self.board.rows c.drop_last.new.self.board.rows self.board.long c.drop_last.result told.value told.log told.rows;
-    }
+pub returns-in_err-drop_entry-clause-law : goal.returns-in_err-drop_entry-clause-law
+returns-in_err-drop_entry-clause-law g c =
+    let long : length c.args.self.now.rows ≡ 32 = rw (← c.self.view_is) c.self.inside.board.long in
+    retract_law _ _ _ _ _ long c.from_residual.result (search rules) (search rules) (search rules)
+
+pub returns-clause-law : goal.returns-clause-law
+returns-clause-law g c =
+    let long : length c.args.self.now.rows ≡ 32 = rw (← c.self.view_is) c.self.inside.board.long in
+    retract_law _ _ _ _ _ long (Ok tt) (search rules) (search rules) (search rules)
