@@ -1,0 +1,28 @@
+-- Loading a domain of either kind from the bytes of its file.
+use Rattle.std.specs.Prelude.{◌≡◌, ℕ, if◌then◌else◌, List, Ok, Err, Result, ◌==◌, slice_index}
+use Rattle.domain.specs.declared.fault.ReadFault.{ReadFault}
+use Rattle.cards.specs.CardFiles.{card_file, read_card}
+use Rattle.maps.specs.MapFiles.{map_file, read_map}
+use Rattle.loading.specs.declared.any_domain.AnyDomain.{AnyDomain}
+use Rattle.loading.specs.declared.fault.LoadFault.{LoadFault}
+use Rattle.loading.specs.declared.fault.LoadFault.TheVariants.{Room, Read}
+use Rattle.loading.specs.Contents.{Contents, of_card, of_map, contents}
+
+-- the bytes of a domain
+abbrev pub domain_file : Contents → List ℕ
+domain_file (of_card c) = card_file c
+domain_file (of_map m) = map_file m
+
+abbrev pub result_map : {X Y : Type 0} → (X → Y) → Result X ReadFault → Result Y ReadFault
+result_map f (Ok x) = Ok (f x)
+result_map f (Err e) = Err e
+
+-- after the letter M a map is read, and else a card, which asks for its own letter
+abbrev pub load : List ℕ → Result Contents ReadFault
+load bs = if slice_index bs 0 == 77 then result_map of_map (read_map bs) else result_map of_card (read_card bs)
+
+-- what a call that loads a domain hands back: apart from want of memory, what loading is defined to be
+abbrev pub Loads : List ℕ → Result AnyDomain LoadFault → Type 0
+Loads bs (Ok d) = load bs ≡ Ok (contents d)
+Loads bs (Err (Read fault)) = load bs ≡ Err fault
+Loads bs (Err (Room fault)) = Unit {0}

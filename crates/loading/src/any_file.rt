@@ -1,0 +1,38 @@
+// The file of a domain of either kind.
+ghost use Rattle.std.specs.Prelude.{◌≡◌, IfOk, Ok};
+ghost use Rattle.files.specs.Writing.{write_outcome, place_after};
+ghost use Rattle.loading.specs.Contents.{contents};
+ghost use Rattle.loading.specs.Loading.{domain_file, load, Loads};
+
+use crate::any_domain::AnyDomain;
+use crate::fault::LoadFault;
+use cards::card::Card;
+use domain::fault::WriteFault;
+use domain::room::Room;
+use maps::field_map::FieldMap;
+use std::alloc::Global;
+
+impl AnyDomain {
+    // The domain that the bytes are the file of: a map after the letter M, and else a card. It can also fail for want of memory.
+    pub fn read(heap: Global, bytes: &[u8]) -> Result<AnyDomain, LoadFault>
+        ensures value { Loads bytes.now result }
+        ensures same { IfOk result (λ d. domain_file (contents d) ≡ bytes.now) }
+    {
+        match bytes {
+            [b'M', ..] => Ok(AnyDomain::Map(FieldMap::read(bytes, Room::take(heap)?)?)),
+            _ => Ok(AnyDomain::Card(Card::read(bytes, Room::take(heap)?)?)),
+        }
+    }
+
+    // The domain's file into the front of the place; the answer is how many bytes it takes.
+    pub fn write(&self, place: &mut [u8]) -> Result<usize, WriteFault>
+        ensures value { result ≡ write_outcome (domain_file (contents self.now)) place.old }
+        ensures place { place.new ≡ place_after (domain_file (contents self.now)) place.old }
+        ensures again { load (domain_file (contents self.now)) ≡ Ok (contents self.now) }
+    {
+        match self {
+            AnyDomain::Card(card) => card.write(place),
+            AnyDomain::Map(map) => map.write(place),
+        }
+    }
+}

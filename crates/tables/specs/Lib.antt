@@ -1,0 +1,4 @@
+-- to be read in this order
+pub mod Parts
+pub mod Taking
+pub mod Answers

@@ -1,0 +1,6 @@
+// The tables that a search works in, as one value.
+#![tactic(auto)]
+
+pub mod fault;
+pub mod searching;
+pub mod tables;
