@@ -1,6 +1,4 @@
 // A list of actions beside a domain, judged by a log. Places of the list and entries of the log count from 0.
-use crate::folders::{bytes_in, bytes_or_empty};
-use crate::numbers_in_words::{add_number, numbers};
 use anyhow::anyhow;
 use domain::Domain;
 use domain::fault::{LogFault, Numbered};
@@ -8,6 +6,8 @@ use judge::carrying::carried;
 use judge::course::Course;
 use judge::marks::admits;
 use logs::log::ObservationLog;
+use reports::folders::{bytes_in, bytes_or_empty};
+use reports::numbers::numbers;
 use std::alloc::{AllocError, Global};
 
 // What is asked of a log.
@@ -20,13 +20,6 @@ fn question(fault: LogFault) -> &'static str {
     }
 }
 
-fn actions_in_words(heap: Global, actions: &[u8]) -> Result<String, AllocError> {
-    if actions.is_empty() {
-        return String::from_str(heap, "empty");
-    }
-    numbers(heap, actions, actions.len())
-}
-
 // The states that the first actions of the list lead through, from the start on.
 fn states<D: Domain>(
     heap: Global,
@@ -35,25 +28,19 @@ fn states<D: Domain>(
     ran: usize,
 ) -> Result<String, AllocError> {
     let mut state = domain.start();
-    let mut text = state.to_string(heap)?;
+    let mut through = vec![in heap; state]?;
     for action in list.iter().take(ran) {
         state = domain.next(state, *action);
-        add_number(heap, &mut text, state)?;
+        through.push(state)?;
     }
-    Ok(text)
+    numbers(heap, through.as_slice(), "none")
 }
 
 fn goals_met<D: Domain>(heap: Global, domain: &D, state: u64) -> Result<String, AllocError> {
-    let mut text = String::new(heap);
-    for goal in 0..domain.goal_count() {
-        if domain.meets(state, goal) {
-            add_number(heap, &mut text, goal)?;
-        }
-    }
-    if text.is_empty() {
-        text.push_str("none")?;
-    }
-    Ok(text)
+    let goals: Vec<u8> = (0..domain.goal_count())
+        .filter(|goal| domain.meets(state, *goal))
+        .collect(heap)?;
+    numbers(heap, goals.as_slice(), "none")
 }
 
 fn say_carried(rt: &HostRuntime, log: &ObservationLog, list: &[u8]) -> anyhow::Result<()> {
@@ -66,7 +53,7 @@ fn say_carried(rt: &HostRuntime, log: &ObservationLog, list: &[u8]) -> anyhow::R
     } else if count == 0 {
         println!(rt; "  carries the empty log")?;
     } else {
-        let at = numbers(rt.alloc(), &places, count)?;
+        let at = numbers(rt.alloc(), &places[..count], "none")?;
         println!(rt; "  carries the log at places: {at}")?;
     }
     Ok(())
@@ -113,8 +100,8 @@ fn say_judged<D: Domain>(
 }
 
 fn say_list(rt: &HostRuntime, list: &[u8], entries: &[u8]) -> anyhow::Result<()> {
-    let actions = actions_in_words(rt.alloc(), list)?;
-    let seen = actions_in_words(rt.alloc(), entries)?;
+    let actions = numbers(rt.alloc(), list, "empty")?;
+    let seen = numbers(rt.alloc(), entries, "empty")?;
     println!(rt; "  list: {actions}, log: {seen}")?;
     Ok(())
 }

@@ -3,26 +3,15 @@
 #![tactic(auto)]
 
 mod costs_in_words;
-mod folders;
+mod files_in_words;
 mod lists_in_words;
-mod numbers_in_words;
-mod refusals_in_words;
 
-use crate::folders::say_folder;
-use std::env;
-
-fn run(rt: &HostRuntime) -> anyhow::Result<()> {
-    let mut none = true;
-    for folder in env::args(rt)?.skip(1) {
-        none = false;
-        say_folder(rt, folder.as_str())?;
-    }
-    if none {
-        say_folder(rt, ".")?;
-    }
-    Ok(())
-}
+use crate::files_in_words::say_folder;
+use reports::folders::folders;
 
 fn main(rt: HostRuntime) -> anyhow::Result<()> {
-    run(&rt)
+    for folder in folders(&rt)? {
+        say_folder(&rt, folder.as_str())?;
+    }
+    Ok(())
 }

@@ -1,69 +1,56 @@
 // A set-up card.
-use crate::files_in_words::say_again;
+use crate::domains_in_words::{InWords, cost_in_words};
 use cards::action::Action;
 use cards::card::Card;
 use domain::Domain;
 use fluents::FluentSet;
+use reports::numbers::numbers;
 use std::alloc::{AllocError, Global};
 
 // The fluents of the set that are below the width, in order.
-fn fluents(heap: Global, set: FluentSet, width: u8) -> Result<String, AllocError> {
-    let mut text = String::new(heap);
-    for fluent in 0..width {
-        if set.contains(fluent) {
-            if !text.is_empty() {
-                text.push(' ')?;
-            }
-            text.push_str(fluent.to_string(heap)?.as_str())?;
-        }
-    }
-    if text.is_empty() {
-        text.push_str("nothing")?;
-    }
-    Ok(text)
+fn set_in_words(heap: Global, width: u8, set: FluentSet) -> Result<String, AllocError> {
+    let fluents: Vec<u8> = (0..width)
+        .filter(|fluent| set.contains(*fluent))
+        .collect(heap)?;
+    numbers(heap, fluents.as_slice(), "nothing")
 }
 
-fn say_action(rt: &HostRuntime, width: u8, number: u8, action: Action) -> anyhow::Result<()> {
-    let heap = rt.alloc();
-    let needs = fluents(heap, action.needs, width)?;
-    let adds = fluents(heap, action.adds, width)?;
-    let deletes = fluents(heap, action.deletes, width)?;
-    let cost = action.cost;
-    let mark = if action.marked { ", marked" } else { "" };
-    println!(rt;
-        "  action {number}: needs {needs}; adds {adds}; deletes {deletes}; cost {cost}{mark}"
-    )?;
-    Ok(())
+fn action_in_words(heap: Global, width: u8, action: Action) -> Result<String, AllocError> {
+    let needs = set_in_words(heap, width, action.needs)?;
+    let adds = set_in_words(heap, width, action.adds)?;
+    let deletes = set_in_words(heap, width, action.deletes)?;
+    let cost = cost_in_words(heap, action.cost, action.marked)?;
+    format!(in heap; "needs {needs}; adds {adds}; deletes {deletes}; {cost}")
 }
 
-fn say_parts(rt: &HostRuntime, card: &Card) -> anyhow::Result<()> {
-    let width = card.width();
-    for number in 0..card.action_count() {
-        if let Some(action) = card.action(number) {
-            say_action(rt, width, number, action)?;
-        }
-    }
-    for number in 0..card.goal_count() {
-        if let Some(goal) = card.goal(number) {
-            let wanted = fluents(rt.alloc(), goal, width)?;
-            println!(rt; "  goal {number}: {wanted}")?;
-        }
-    }
-    Ok(())
-}
+impl InWords for Card {
+    const KIND: &'static str = "set-up card";
 
-pub(crate) fn describe_card(rt: &HostRuntime, bytes: &[u8], card: &Card) -> anyhow::Result<()> {
-    let heap = rt.alloc();
-    let width = card.width();
-    let actions = card.action_count();
-    let goals = card.goal_count();
-    let start = fluents(heap, FluentSet::from_bits(card.start()), width)?;
-    println!(rt;
-        "  set-up card: width {width}, {width} fluents, {actions} actions, {goals} goals"
-    )?;
-    println!(rt; "  start: {start}")?;
-    say_parts(rt, card)?;
-    let mut again = vec![in heap; 0u8; bytes.len()]?;
-    let written = card.write(again.as_mut_slice());
-    say_again(rt, bytes, again.as_slice(), written)
+    const STATES: &'static str = "fluents";
+
+    const ACTION: &'static str = "action";
+
+    fn size(&self) -> u8 {
+        self.width()
+    }
+
+    fn start_in_words(&self, heap: Global) -> Result<String, AllocError> {
+        set_in_words(heap, self.width(), FluentSet::from_bits(self.start()))
+    }
+
+    fn actions_in_words(&self, heap: Global) -> Result<Vec<String>, AllocError> {
+        let width = self.width();
+        (0..self.action_count())
+            .filter_map(|number| self.action(number))
+            .map(|action| action_in_words(heap, width, action))
+            .try_collect(heap)
+    }
+
+    fn goals_in_words(&self, heap: Global) -> Result<Vec<String>, AllocError> {
+        let width = self.width();
+        (0..self.goal_count())
+            .filter_map(|number| self.goal(number))
+            .map(|goal| set_in_words(heap, width, goal))
+            .try_collect(heap)
+    }
 }

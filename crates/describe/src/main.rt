@@ -3,24 +3,16 @@
 #![tactic(auto)]
 
 mod cards_in_words;
+mod domains_in_words;
 mod files_in_words;
 mod maps_in_words;
 
 use crate::files_in_words::describe;
-use std::env;
-
-fn run(rt: &HostRuntime) -> anyhow::Result<()> {
-    let mut none = true;
-    for folder in env::args(rt)?.skip(1) {
-        none = false;
-        describe(rt, folder.as_str())?;
-    }
-    if none {
-        describe(rt, ".")?;
-    }
-    Ok(())
-}
+use reports::folders::folders;
 
 fn main(rt: HostRuntime) -> anyhow::Result<()> {
-    run(&rt)
+    for folder in folders(&rt)? {
+        describe(&rt, folder.as_str())?;
+    }
+    Ok(())
 }

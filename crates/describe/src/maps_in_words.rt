@@ -1,37 +1,43 @@
 // A field map.
-use crate::files_in_words::say_again;
+use crate::domains_in_words::{InWords, cost_in_words};
 use domain::Domain;
 use maps::field_map::FieldMap;
+use maps::moves::Move;
+use std::alloc::{AllocError, Global};
 
-fn say_parts(rt: &HostRuntime, map: &FieldMap) -> anyhow::Result<()> {
-    for number in 0..map.action_count() {
-        if let Some(step) = map.move_at(number) {
-            let from = step.from.0;
-            let to = step.to.0;
-            let cost = step.cost;
-            let mark = if step.marked { ", marked" } else { "" };
-            println!(rt; "  move {number}: from place {from} to place {to}; cost {cost}{mark}")?;
-        }
-    }
-    for number in 0..map.goal_count() {
-        if let Some(goal) = map.goal(number) {
-            let place = goal.0;
-            println!(rt; "  goal {number}: place {place}")?;
-        }
-    }
-    Ok(())
+fn move_in_words(heap: Global, step: Move) -> Result<String, AllocError> {
+    let from = step.from.0;
+    let to = step.to.0;
+    let cost = cost_in_words(heap, step.cost, step.marked)?;
+    format!(in heap; "from place {from} to place {to}; {cost}")
 }
 
-pub(crate) fn describe_map(rt: &HostRuntime, bytes: &[u8], map: &FieldMap) -> anyhow::Result<()> {
-    let width = map.width();
-    let places = map.places();
-    let moves = map.action_count();
-    let goals = map.goal_count();
-    let start = map.start();
-    println!(rt; "  field map: width {width}, {places} places, {moves} moves, {goals} goals")?;
-    println!(rt; "  start: place {start}")?;
-    say_parts(rt, map)?;
-    let mut again = vec![in rt.alloc(); 0u8; bytes.len()]?;
-    let written = map.write(again.as_mut_slice());
-    say_again(rt, bytes, again.as_slice(), written)
+impl InWords for FieldMap {
+    const KIND: &'static str = "field map";
+
+    const STATES: &'static str = "places";
+
+    const ACTION: &'static str = "move";
+
+    fn size(&self) -> u8 {
+        self.places()
+    }
+
+    fn start_in_words(&self, heap: Global) -> Result<String, AllocError> {
+        format!(in heap; "place {}", self.start())
+    }
+
+    fn actions_in_words(&self, heap: Global) -> Result<Vec<String>, AllocError> {
+        (0..self.action_count())
+            .filter_map(|number| self.move_at(number))
+            .map(|step| move_in_words(heap, step))
+            .try_collect(heap)
+    }
+
+    fn goals_in_words(&self, heap: Global) -> Result<Vec<String>, AllocError> {
+        (0..self.goal_count())
+            .filter_map(|number| self.goal(number))
+            .map(|goal| format!(in heap; "place {}", goal.0))
+            .try_collect(heap)
+    }
 }

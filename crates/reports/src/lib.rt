@@ -1,0 +1,6 @@
+// What the programs share: folders and their files, rows of numbers, and the words of a refusal.
+#![tactic(auto)]
+
+pub mod folders;
+pub mod numbers;
+pub mod refusal;
