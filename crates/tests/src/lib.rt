@@ -2,7 +2,7 @@
 #![tactic(auto)]
 
 #[cfg(test)]
-mod domains;
+mod loaded_domains;
 #[cfg(test)]
 mod searches;
 #[cfg(test)]

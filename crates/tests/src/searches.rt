@@ -1,8 +1,8 @@
 // Searches on watched and plain domains.
-use crate::domains::{card_of, map_of};
 use domain::Domain;
 use examples::sample_files;
 use judge::course::Course;
+use loading::any_domain::AnyDomain;
 use search::entry::Entry;
 use search::fault::SearchFault;
 use search::least_costs::least_costs;
@@ -10,11 +10,32 @@ use std::alloc::Global;
 use std::process::Abort;
 use std::test::Fail;
 use table::row::Row;
+use tables::fault::TablesFault;
+use tables::tables::Tables;
 use watched::watched::Watched;
 
 // The two least costs, found with so many rows. The plan that is shown is run, and has to cost the second, or the first where that is absent.
 fn costs<D: Domain>(
     rt: &impl Abort,
+    heap: Global,
+    domain: &D,
+    goal: u8,
+    rows: usize,
+) -> Result<Result<(Option<u32>, Option<u32>), SearchFault>, Fail> {
+    let mut tables = Tables::take(heap, rows)?;
+    let found = tables.least_costs(domain, goal);
+    if let Ok((without, with)) = found {
+        let plan = tables.plan();
+        let course = Course::of(domain, plan);
+        assert_eq!(rt; course.ran, plan.len());
+        let shown = with.or(without).unwrap_or(0);
+        assert_eq!(rt; course.cost, u128::from(shown));
+    }
+    Ok(found)
+}
+
+// The same of a search that is lent tables of a size that is no tables' own.
+fn costs_in_lent<D: Domain>(
     heap: Global,
     domain: &D,
     goal: u8,
@@ -28,25 +49,14 @@ fn costs<D: Domain>(
     let mut table = vec![in heap; Row::blank(); rows]?;
     let mut waiting = vec![in heap; unused; rows]?;
     let mut plan = vec![in heap; 0u8; rows]?;
-    match least_costs(
+    let found = least_costs(
         domain,
         goal,
         table.as_mut_slice(),
         waiting.as_mut_slice(),
         plan.as_mut_slice(),
-    ) {
-        Ok((found, length)) => {
-            let course = Course::of(domain, plan.get(0..length).unwrap_or(&[]));
-            assert_eq!(rt; course.ran, length);
-            let shown = match found {
-                (_, Some(cost)) => cost,
-                (first, None) => first.unwrap_or(0),
-            };
-            assert_eq!(rt; course.cost, u128::from(shown));
-            Ok(Ok(found))
-        }
-        Err(fault) => Ok(Err(fault)),
-    }
+    );
+    Ok(found.map(|(costs, _)| costs))
 }
 
 fn noted<D: Domain + Drop>(domain: D, log: &[u8]) -> Result<Watched<D>, Fail> {
@@ -75,7 +85,7 @@ fn logs_on_the_card(rt: HostRuntime) -> Result<(), Fail> {
         (&files.marked, &[4, 1], 0, (Some(3), Some(4))),
         (&files.marked, &[4], 0, (None, None)),
     ] {
-        let watched = noted(card_of(heap, file)?, log)?;
+        let watched = noted(AnyDomain::read(heap, file)?, log)?;
         assert_eq!(rt; costs(&rt, heap, &watched, goal, 64)?, Ok(found));
     }
     Ok(())
@@ -91,12 +101,38 @@ fn logs_on_the_map(rt: HostRuntime) -> Result<(), Fail> {
         (0, 0, 6, Ok((Some(4), Some(4)))),
         (0, 0, 5, Err(SearchFault::Rows)),
         (0, 2, 5, Err(SearchFault::Rows)),
-        (0, 0, 0, Err(SearchFault::Tables)),
-        (0, 0, 4097, Err(SearchFault::Tables)),
-        (0, 3, 0, Err(SearchFault::Goal)),
     ] {
-        let watched = noted(map_of(heap, &sample_files().slews)?, &[entry])?;
+        let watched = noted(AnyDomain::read(heap, &sample_files().slews)?, &[entry])?;
         assert_eq!(rt; costs(&rt, heap, &watched, goal, rows)?, found);
+    }
+    Ok(())
+}
+
+#[test]
+fn lent_tables_of_no_size(rt: HostRuntime) -> Result<(), Fail> {
+    let heap = rt.alloc();
+    let watched = noted(AnyDomain::read(heap, &sample_files().slews)?, &[0])?;
+    for (goal, rows, fault) in [
+        (0, 0, SearchFault::Tables),
+        (0, 4097, SearchFault::Tables),
+        (3, 0, SearchFault::Goal),
+    ] {
+        assert_eq!(rt; costs_in_lent(heap, &watched, goal, rows)?, Err(fault));
+    }
+    Ok(())
+}
+
+// Memory for tables can be had, and only so many rows are given.
+#[test]
+fn tables_are_taken(rt: HostRuntime) -> Result<(), Fail> {
+    for (rows, taken) in [
+        (0, Err(TablesFault::Rows)),
+        (1, Ok(0)),
+        (4096, Ok(0)),
+        (4097, Err(TablesFault::Rows)),
+    ] {
+        let tables = Tables::take(rt.alloc(), rows);
+        assert_eq!(rt; tables.map(|tables| tables.plan().len()), taken);
     }
     Ok(())
 }

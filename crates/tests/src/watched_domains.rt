@@ -1,16 +1,16 @@
 // Watched domains over cards, and over each other.
-use crate::domains::card_of;
-use cards::card::Card;
 use domain::Domain;
 use domain::fault::LogFault;
 use examples::sample_files;
+use loading::any_domain::AnyDomain;
+use loading::fault::LoadFault;
 use std::alloc::Global;
 use std::test::Fail;
 use watched::watched::Watched;
 
 // A card with one action, which needs and changes nothing, and one goal, which is always met.
-fn plain_card(heap: Global, fluents: u8) -> Result<Card, Fail> {
-    card_of(heap, &[0x53, fluents, 1, 1, 0, 0, 0, 0, 0, 0, 0, 0, 0])
+fn plain_card(heap: Global, fluents: u8) -> Result<AnyDomain, LoadFault> {
+    AnyDomain::read(heap, &[0x53, fluents, 1, 1, 0, 0, 0, 0, 0, 0, 0, 0, 0])
 }
 
 // Five bits more for a log over at most 55; above that the log stays empty.
@@ -54,7 +54,7 @@ fn twenty_entries(rt: HostRuntime) -> Result<(), Fail> {
 #[test]
 fn stack_of_two(rt: HostRuntime) -> Result<(), Fail> {
     let files = sample_files();
-    let mut inner = Watched::new(card_of(rt.alloc(), &files.calibration)?);
+    let mut inner = Watched::new(AnyDomain::read(rt.alloc(), &files.calibration)?);
     assert_eq!(rt; inner.add_entry(1), Ok(()));
     assert_eq!(rt; inner.add_entry(1), Ok(()));
     let mut outer = Watched::new(inner);

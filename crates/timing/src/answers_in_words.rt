@@ -1,44 +1,60 @@
 // What is printed of a goal.
-ghost use Rattle.std.specs.Prelude.{◌≡◌, IfOk, string_bytes};
+ghost use Rattle.std.specs.Prelude.{Some};
 ghost use Rattle.timing.specs.Words.{cost_words, answer_words};
 
 use domain::fault::Numbered;
 use search::fault::SearchFault;
-use std::alloc::{AllocError, Global};
+use std::fmt;
 
 // A cost, or a dash where there is none.
-fn cost_in_words(heap: Global, cost: Option<u32>) -> Result<String, AllocError>
-    ensures { IfOk result (λ s. string_bytes s ≡ cost_words cost) }
-{
-    match cost {
-        Some(cost) => format!(in heap; "{cost}"),
-        None => String::from_str(heap, "-"),
+#[derive(Clone, Copy)]
+struct Cost(Option<u32>);
+
+impl fmt::Display for Cost {
+    ghost output = { λ cost. Some (cost_words cost.0) };
+
+    fn fmt<W: fmt::Write>(&self, f: &mut fmt::Formatter<W>) -> fmt::Result {
+        match self.0 {
+            Some(cost) => write!(f, "{cost}"),
+            None => f.write_str("-"),
+        }
     }
 }
 
 // The two least costs and the length of the plan.
-fn answer_in_words(
-    heap: Global,
-    without: Option<u32>,
-    with: Option<u32>,
+#[derive(Clone, Copy)]
+struct Answer {
+    without: Cost,
+    with: Cost,
     length: usize,
-) -> Result<String, AllocError>
-    ensures { IfOk result (λ s. string_bytes s ≡ answer_words without with «length») }
-{
-    let first = cost_in_words(heap, without)?;
-    let second = cost_in_words(heap, with)?;
-    format!(in heap; "costs {first} {second} plan {length}")
+}
+
+impl fmt::Display for Answer {
+    ghost output = { λ answer. Some (answer_words answer.without.0 answer.with.0 answer.«length») };
+
+    fn fmt<W: fmt::Write>(&self, f: &mut fmt::Formatter<W>) -> fmt::Result {
+        write!(
+            f,
+            "costs {} {} plan {}",
+            self.without, self.with, self.length
+        )
+    }
 }
 
 pub(crate) fn say(
     rt: &HostRuntime,
     goal: u8,
-    answer: Result<((Option<u32>, Option<u32>), usize), SearchFault>,
+    found: Result<(Option<u32>, Option<u32>), SearchFault>,
+    plan: &[u8],
 ) -> anyhow::Result<()> {
-    match answer {
-        Ok(((without, with), length)) => {
-            let words = answer_in_words(rt.alloc(), without, with, length)?;
-            println!(rt; "goal {goal} {words}")?;
+    match found {
+        Ok((without, with)) => {
+            let answer = Answer {
+                without: Cost(without),
+                with: Cost(with),
+                length: plan.len(),
+            };
+            println!(rt; "goal {goal} {answer}")?;
         }
         Err(fault) => {
             let number = fault.number();

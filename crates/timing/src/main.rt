@@ -4,7 +4,6 @@
 
 mod answers_in_words;
 mod rounds;
-mod tables;
 
 use crate::rounds::search_file;
 use anyhow::anyhow;
