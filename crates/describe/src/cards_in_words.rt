@@ -35,7 +35,7 @@ impl InWords for Card {
     }
 
     fn start_in_words(&self, heap: Global) -> Result<String, AllocError> {
-        set_in_words(heap, self.width(), FluentSet::from_bits(self.start()))
+        set_in_words(heap, self.width(), FluentSet::from(self.start()))
     }
 
     fn actions_in_words(&self, heap: Global) -> Result<Vec<String>, AllocError> {

@@ -39,6 +39,9 @@ impl FluentSet {
     pub fn within(self, other: FluentSet) -> bool
         ensures { IsTrue result ↔ Within self.0 other.0 }
     {
+        if self.0 == 0 {
+            return true;
+        }
         self.0 & other.0 == self.0
     }
 

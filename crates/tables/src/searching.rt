@@ -25,14 +25,9 @@ impl Tables {
         if rows < 1 || rows > Tables::MOST {
             return Err(TablesFault::Rows);
         }
-        let unused = Entry {
-            cost: 0,
-            state: 0,
-            row: 0,
-        };
         Ok(Tables {
-            rows: vec![in heap; Row::blank(); rows]?,
-            waiting: vec![in heap; unused; rows]?,
+            rows: vec![in heap; Row::default(); rows]?,
+            waiting: vec![in heap; Entry::default(); rows]?,
             plan: vec![in heap; 0u8; rows]?,
             shown: 0,
         })

@@ -41,13 +41,8 @@ fn costs_in_lent<D: Domain>(
     goal: u8,
     rows: usize,
 ) -> Result<Result<(Option<u32>, Option<u32>), SearchFault>, Fail> {
-    let unused = Entry {
-        cost: 0,
-        state: 0,
-        row: 0,
-    };
-    let mut table = vec![in heap; Row::blank(); rows]?;
-    let mut waiting = vec![in heap; unused; rows]?;
+    let mut table = vec![in heap; Row::default(); rows]?;
+    let mut waiting = vec![in heap; Entry::default(); rows]?;
     let mut plan = vec![in heap; 0u8; rows]?;
     let found = least_costs(
         domain,
