@@ -1,14 +1,10 @@
 -- From what a call does to the law of every run that it ends.
-use Rattle.std.proofs.Common.{◌≡◌, ℕ, ◌≤◌, Bool, true, false, cond, eqb, List, length, Some, None, Ok, Err, Option, Result, sym, refl, ap, ◌∙◌, subst, arith}
-use Rattle.std.proofs.lemmas.Bool.{lt-ltb, eqb-false}
+use Rattle.std.proofs.Common.{◌≡◌, ℕ, List, length, Ok, Err, Result, sym, refl, ap, ◌∙◌, subst, arith}
 use Rattle.board.specs.declared.row.BoardRow.{BoardRow}
-use Rattle.board.specs.Rows.{judged_row, agrees}
 use Rattle.domain.specs.declared.fault.LogFault.{LogFault}
 use Rattle.domain.specs.Faults.{log_number}
 use Rattle.domain.specs.Meaning.{Meaning, Limits}
-use Rattle.plans.specs.declared.verdict.Verdict.TheVariants as verdicts
 use Rattle.plans.specs.Laws.{Watchable}
-use Rattle.plans.specs.Plans.{PlanFor, CompletePlan, LeastCost}
 use Rattle.search.specs.Answers.{Sizes}
 use Rattle.watched.specs.Noting.{add_outcome, drop_outcome}
 use Rattle.watch.specs.declared.fault.WatchFault.{WatchFault}
@@ -25,8 +21,7 @@ use Rattle.watch.proofs.Reporting.{watchable, right_report}
 use Rattle.watch.proofs.Stepping.{carried_on}
 
 same_number : {X : Type 0} (o : Result X LogFault) → numbered watch_number (of_log o) ≡ numbered log_number o
-same_number (Ok x) = refl
-same_number (Err fault) = refl
+same_number o = grind arith
 
 module _ (d : Meaning) (log log' : List ℕ) (rows rows' : List BoardRow) (long : length rows ≡ 32) (r : Result (Unit {0}) WatchFault) where
   pub note_law : (a : ℕ) → r ≡ of_log (add_outcome d log a) → log' ≡ log_after d log (note a) → RowsAfter rows (note a, numbered watch_number r) rows' → Then d (note a, numbered watch_number r) log rows log' rows'

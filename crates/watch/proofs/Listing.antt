@@ -1,5 +1,5 @@
 -- A list of calls, one after another.
-use Rattle.std.proofs.Common.{◌≡◌, ℕ, ◌-◌, ◌≤◌, min, List, ◌++◌, length, take, Ok, Err, Option, Result, sym, refl, ap, ◌∙◌, subst, arith}
+use Rattle.std.proofs.Common.{◌≡◌, ℕ, ◌≤◌, min, List, ◌++◌, length, take, Ok, Err, Option, Result, refl, ap, arith}
 use Rattle.std.proofs.lemmas.Grind.{common_steps}
 use lib.Seq.{take-append-le}
 use Rattle.board.specs.declared.row.BoardRow.{BoardRow}

@@ -1,7 +1,8 @@
 -- What the search answers on a watched domain, in the words of the domain below.
 use Rattle.std.proofs.Common.{◌≡◌, ℕ, ◌-◌, Bool, true, false, cond, eqb, ltb, leb, List, [], ◌∷◌, ◌++◌, length, take, is_ok, Some, None, Ok, Err, Option, sym, refl, ap, ◌∙◌, subst, arith}
-use Rattle.std.proofs.lemmas.List.{length_push, length-take}
-use Rattle.std.proofs.lemmas.Bool.{eqb-true, leb-true, ltb-true}
+use Rattle.std.proofs.lemmas.Grind.{common_steps}
+use Rattle.std.proofs.lemmas.List.{length-take}
+use Rattle.std.proofs.lemmas.Bool.{eqb-true}
 use Rattle.domain.specs.declared.fault.LogFault.TheVariants.{Action, Width, Full}
 use Rattle.domain.specs.Meaning.{Meaning, Limits}
 use Rattle.plans.specs.declared.verdict.Verdict.{Verdict}
@@ -23,10 +24,7 @@ use Rattle.watch.specs.Reports.{ShownBy, RightBelow, RightReport}
 
 -- The log of a book can be watched: it has at most 20 entries, and none over a width above 55.
 note_if : (d : Meaning) (log : List ℕ) (a : ℕ) (x y z : Bool) → ltb a d.actions ≡ x → leb d.width 55 ≡ y → ltb (length log) 20 ≡ z → Watchable d log → Watchable d (cond (is_ok {T = Unit {0}} (cond x (cond y (cond z (Ok tt) (Err Full)) (Err Width)) (Err Action))) (log ++ (a ∷ [])) log)
-note_if d log a true true true e f g ok = record { limits = ok.limits; few = omega (arith, ltb-true (length log) 20 g, length_push log a); wide = λ h. absurd (omega (arith, leb-true d.width 55 f)) }
-note_if d log a true true false e f g ok = ok
-note_if d log a true false z e f g ok = ok
-note_if d log a false y z e f g ok = ok
+note_if d log a x y z e f g ok = grind (arith, common_steps)
 
 watchable_after : (d : Meaning) (log : List ℕ) (c : Call) → Watchable d log → Watchable d (log_after d log c)
 watchable_after d log (note a) ok = note_if d log a (ltb a d.actions) (leb d.width 55) (ltb (length log) 20) refl refl refl ok

@@ -1,5 +1,5 @@
 -- One call more: the law of a run is carried on.
-use Rattle.std.proofs.Common.{◌≡◌, ℕ, ◌<◌, Bool, true, false, cond, ltb, List, [], ◌∷◌, ◌++◌, length, get_or, take, set, replicate, is_ok, Some, None, Ok, Err, Option, Result, sym, refl, ap, ◌∙◌, subst, ⊎_elim, append_assoc, arith}
+use Rattle.std.proofs.Common.{◌≡◌, ℕ, ◌<◌, Bool, false, cond, ltb, List, [], ◌∷◌, ◌++◌, length, get_or, take, replicate, is_ok, Ok, Err, Option, Result, sym, refl, ap, ◌∙◌, ⊎_elim, append_assoc, arith}
 use Rattle.std.proofs.lemmas.List.{get_or-replicate, get_or-set_same, get_or-set_other, take_all}
 use Rattle.std.proofs.lemmas.Bool.{cases_eq, cond-false, ltb-false}
 use Rattle.board.specs.declared.row.BoardRow.{BoardRow}
@@ -7,15 +7,13 @@ use Rattle.board.specs.Rows.{open_row, judged_row}
 use Rattle.domain.specs.declared.fault.LogFault.TheVariants.{Empty}
 use Rattle.domain.specs.Faults.{log_number}
 use Rattle.domain.specs.Meaning.{Meaning}
-use Rattle.plans.specs.declared.verdict.Verdict.{Verdict}
 use Rattle.plans.specs.Logs.{Admitted, Whole}
 use Rattle.plans.specs.Plans.{LeastCost}
-use Rattle.plans.specs.Verdicts.{verdict_of}
 use Rattle.watched.specs.Noting.{add_outcome}
 use Rattle.watch.specs.Book.{log_after, book_from, book}
 use Rattle.watch.specs.Calls.{Event, note, retract, report}
 use Rattle.watch.specs.Reports.{numbered, Right}
-use Rattle.watch.specs.Runs.{ReportsOn, ChangesLog, Occurs, LogChanges, NotReported, Holds, RowTells, Ran, RowsAfter}
+use Rattle.watch.specs.Runs.{ReportsOn, ChangesLog, Occurs, LogChanges, NotReported, RowTells, Ran, RowsAfter}
 
 -- Where an event stands in a run that has one more at the end: it is the last, or stands in the run.
 pub data Split (run before : List Event) (e x : Event) (later : List Event) : Type 0 where
@@ -23,27 +21,18 @@ pub data Split (run before : List Event) (e x : Event) (later : List Event) : Ty
   within : (rest : List Event) → later ≡ rest ++ (e ∷ []) → run ≡ before ++ (x ∷ rest) → Split run before e x later
 
 nonempty : {C : Type 0} (xs : List Event) (x : Event) (ys : List Event) → [] ≡ xs ++ (x ∷ ys) → C
-nonempty [] x ys e = let z : ◌≡◌ {A = ℕ} 0 1 = cc in absurd (omega arith)
-nonempty (y ∷ xs) x ys e = let z : ◌≡◌ {A = ℕ} 0 1 = cc in absurd (omega arith)
-
-tail : List Event → List Event
-tail [] = []
-tail (x ∷ xs) = xs
-
-first : Event → List Event → Event
-first d [] = d
-first d (x ∷ xs) = x
+nonempty [] x ys e = cc
+nonempty (y ∷ xs) x ys e = cc
 
 split : (run before : List Event) (e x : Event) (later : List Event) → run ++ (e ∷ []) ≡ before ++ (x ∷ later) → Split run before e x later
-unfolding tail first
-split [] [] e x later p = at_end refl (sym (ap (first e) p)) (sym (ap tail p))
-split [] (b ∷ before) e x later p = nonempty before x later (ap tail p)
-split (r ∷ run) [] e x later p = within run (sym (ap tail p)) (ap (λ y. y ∷ run) (ap (first r) p))
-split (r ∷ run) (b ∷ before) e x later p = more (split run before e x later (ap tail p))
+split [] [] e x later p = at_end refl (cc) (cc)
+split [] (b ∷ before) e x later p = nonempty before x later (cc)
+split (r ∷ run) [] e x later p = within run (cc) (cc)
+split (r ∷ run) (b ∷ before) e x later p = more (split run before e x later (cc))
   where
     more : Split run before e x later → Split (r ∷ run) (b ∷ before) e x later
-    more (at_end s t u) = at_end (λ i. sym (ap (first r) p) i ∷ s i) t u
-    more (within rest s t) = within rest s (λ i. ap (first r) p i ∷ t i)
+    more (at_end s t u) = at_end (cc) t u
+    more (within rest s t) = within rest s (cc)
 
 -- and the other way round
 occurs_more : (run before : List Event) (e x : Event) (later : List Event) → Occurs run before x later → Occurs (run ++ (e ∷ [])) before x (later ++ (e ∷ []))
@@ -65,7 +54,7 @@ changes_fewer : (later : List Event) (e : Event) → (ChangesLog e → ⊥) → 
 changes_fewer later e never (before, (x, (rest, (o, c)))) = go (split later before e x rest o.is)
   where
     go : Split later before e x rest → LogChanges later
-    go (at_end s t u) = absurd (never (subst ChangesLog t c))
+    go (at_end s t u) = absurd (never (rw t at c))
     go (within more s t) = (before, (x, (more, (record { is = t }, c))))
 
 changes_none : LogChanges [] → ⊥
@@ -78,16 +67,16 @@ module _ (run : List Event) (e : Event) (g : ℕ) where
   reported_changed c never before x later o r = go (split run before e x later o.is)
     where
       go : Split run before e x later → LogChanges later
-      go (at_end s t u) = absurd (never (subst (ReportsOn g) t r))
-      go (within rest s t) = subst LogChanges (sym s) (changes_last rest e c)
+      go (at_end s t u) = absurd (never (rw t at r))
+      go (within rest s t) = rw s (changes_last rest e c)
 
   -- nothing that matters to the goal happened
   reported_same : (ReportsOn g e → ⊥) → NotReported run g → NotReported (run ++ (e ∷ [])) g
   reported_same never n before x later o r = go (split run before e x later o.is)
     where
       go : Split run before e x later → LogChanges later
-      go (at_end s t u) = absurd (never (subst (ReportsOn g) t r))
-      go (within rest s t) = subst LogChanges (sym s) (changes_more rest e (n before x rest (record { is = t }) r))
+      go (at_end s t u) = absurd (never (rw t at r))
+      go (within rest s t) = rw s (changes_more rest e (n before x rest (record { is = t }) r))
 
   reported_before : (ChangesLog e → ⊥) → NotReported (run ++ (e ∷ [])) g → NotReported run g
   reported_before never n before x later o r = changes_fewer later e never (n before x (later ++ (e ∷ [])) (occurs_more run before e x later o) r)
@@ -96,54 +85,38 @@ module _ (run : List Event) (e : Event) (g : ℕ) where
   reported_now : ReportsOn g e → NotReported (run ++ (e ∷ [])) g → ⊥
   reported_now r n = changes_none (n run e [] (record { is = refl }) r)
 
-no_verdict : {C : Type 0} (v : Verdict) → ◌≡◌ {A = Option Verdict} None (Some v) → C
-no_verdict v e = let z : ◌≡◌ {A = ℕ} 0 1 = cc in absurd (omega arith)
-
-some_verdict : {C : Type 0} (v : Verdict) → ◌≡◌ {A = Option Verdict} (Some v) None → C
-some_verdict v e = let z : ◌≡◌ {A = ℕ} 0 1 = cc in absurd (omega arith)
-
-same_verdict : (v w : Verdict) → ◌≡◌ {A = Option Verdict} (Some v) (Some w) → w ≡ v
-same_verdict v w e = cc
-
 -- How a row goes on.
-module _ (d : Meaning) (run : List Event) (e : Event) (log log' : List ℕ) (g : ℕ) (row row' : BoardRow) where
+module _ (d : Meaning) (run : List Event) (e : Event) (log' : List ℕ) (g : ℕ) (row' : BoardRow) where
   row_opens : ChangesLog e → (ReportsOn g e → ⊥) → row' ≡ open_row → RowTells d (run ++ (e ∷ [])) log' g row'
   row_opens c never is = record {
     open_so = λ _. reported_changed run e g c never;
     so_open = λ _. is;
-    judged = λ v k. no_verdict v (sym (ap (λ (r : BoardRow). r.verdict) is) ∙ k);
-  }
-
-  row_stays : (ChangesLog e → ⊥) → (ReportsOn g e → ⊥) → log' ≡ log → row' ≡ row → RowTells d run log g row → RowTells d (run ++ (e ∷ [])) log' g row'
-  row_stays unchanged never same is t = record {
-    open_so = λ k. reported_same run e g never (t.open_so (sym (ap (λ (r : BoardRow). r.verdict) is) ∙ k));
-    so_open = λ n. is ∙ t.so_open (reported_before run e g unchanged n);
-    judged = λ v k. subst (λ l. Holds d l g row' v) (sym same) (subst (λ r. Holds d log g r v) (sym is) (t.judged v (sym (ap (λ (r : BoardRow). r.verdict) is) ∙ k)));
+    judged = λ v k. let h = rw is at k in cc;
   }
 
   row_judged : ReportsOn g e → (without with : Option ℕ) → row' ≡ judged_row without with → g < d.goals → LeastCost d (Admitted d log' g) without → LeastCost d (Whole d log' g) with → RowTells d (run ++ (e ∷ [])) log' g row'
-  row_judged r without with is goal one two = record {
-    open_so = λ k. some_verdict (verdict_of without with) (sym (ap (λ (x : BoardRow). x.verdict) is) ∙ k);
+  row_judged r without with is goal one two = rw is (record {
+    open_so = λ k. cc;
     so_open = λ n. absurd (reported_now run e g r n);
-    judged = λ v k. record {
-      is_goal = goal;
-      without = subst (λ (x : BoardRow). LeastCost d (Admitted d log' g) x.without) (sym is) one;
-      with = subst (λ (x : BoardRow). LeastCost d (Whole d log' g) x.with) (sym is) two;
-      verdict = same_verdict (verdict_of without with) v (sym (ap (λ (x : BoardRow). x.verdict) is) ∙ k) ∙ ap (λ (x : BoardRow). verdict_of x.without x.with) (sym is);
-    };
-  }
+    judged = λ v k. record { is_goal = goal; without = one; with = two; verdict = cc };
+  })
+
+  row_stays : (log : List ℕ) (row : BoardRow) → (ChangesLog e → ⊥) → (ReportsOn g e → ⊥) → log' ≡ log → row' ≡ row → RowTells d run log g row → RowTells d (run ++ (e ∷ [])) log' g row'
+  row_stays log row unchanged never same is t = rw (same, is) (record {
+    open_so = λ k. reported_same run e g never (t.open_so k);
+    so_open = λ n. t.so_open (reported_before run e g unchanged n);
+    judged = t.judged;
+  })
 
 -- A refusal leaves the log.
 refused_so : {X F : Type 0} (number : F → ℕ) (r : Result X F) (n : ℕ) → ◌≡◌ {A = Result X ℕ} (Err n) (numbered number r) → is_ok r ≡ false
-refused_so number (Ok x) n e = let z : ◌≡◌ {A = ℕ} 0 1 = cc in absurd (omega arith)
-refused_so number (Err f) n e = refl
+refused_so number r n e = grind arith
 
 note_refused : (d : Meaning) (log : List ℕ) (a n : ℕ) → Right d log (note a, Err n) → log_after d log (note a) ≡ log
 note_refused d log a n r = cond-false (is_ok (add_outcome d log a)) _ log (refused_so log_number (add_outcome d log a) n r)
 
 drop_if : (b : Bool) (n : ℕ) → ◌≡◌ {A = Result (Unit {0}) ℕ} (Err n) (numbered log_number (cond b (Ok tt) (Err Empty))) → b ≡ false
-drop_if true n e = let z : ◌≡◌ {A = ℕ} 0 1 = cc in absurd (omega arith)
-drop_if false n e = refl
+drop_if b n e = grind arith
 
 retract_refused : (d : Meaning) (log : List ℕ) (n : ℕ) → Right d log (retract, Err n) → log_after d log retract ≡ log
 retract_refused d log n r =
@@ -151,39 +124,27 @@ retract_refused d log n r =
     ap (λ k. take k log) (omega (arith, none)) ∙ take_all (length log) log (omega arith)
 
 module _ (d : Meaning) (run : List Event) (log log' : List ℕ) (rows rows' : List BoardRow) (ran : Ran d run log rows) (long : length rows ≡ 32) where
-  open_at : (g : ℕ) → g < 32 → rows' ≡ replicate 32 open_row → get_or rows' g open_row ≡ open_row
-  open_at g h e = ap (λ xs. get_or xs g open_row) e ∙ get_or-replicate 32 g open_row open_row h
-
-  same_at : (g : ℕ) → rows' ≡ rows → get_or rows' g open_row ≡ get_or rows g open_row
-  same_at g e = ap (λ xs. get_or xs g open_row) e
-
   board_on : (e : Event) → Right d log e → log' ≡ log_after d log e.0 → RowsAfter rows e rows' → (g : ℕ) → g < 32 → RowTells d (run ++ (e ∷ [])) log' g (get_or rows' g open_row)
-  board_on (note a, Ok x) right is after g h = row_opens d run (note a, Ok x) log log' g (get_or rows g open_row) (get_or rows' g open_row) tt (λ r. r) (open_at g h after)
-  board_on (note a, Err n) right is after g h = row_stays d run (note a, Err n) log log' g (get_or rows g open_row) (get_or rows' g open_row) (λ c. c) (λ r. r) (is ∙ note_refused d log a n right) (same_at g after) (ran.board g h)
-  board_on (retract, Ok x) right is after g h = row_opens d run (retract, Ok x) log log' g (get_or rows g open_row) (get_or rows' g open_row) tt (λ r. r) (open_at g h after)
-  board_on (retract, Err n) right is after g h = row_stays d run (retract, Err n) log log' g (get_or rows g open_row) (get_or rows' g open_row) (λ c. c) (λ r. r) (is ∙ retract_refused d log n right) (same_at g after) (ran.board g h)
+  board_on (note a, Ok x) right is after g h = row_opens _ _ _ _ _ _ tt (λ r. r) (rw (after, get_or-replicate))
+  board_on (note a, Err n) right is after g h = row_stays _ _ _ _ _ _ log (get_or rows g open_row) (λ c. c) (λ r. r) (is ∙ note_refused d log a n right) (rw after) (ran.board g h)
+  board_on (retract, Ok x) right is after g h = row_opens _ _ _ _ _ _ tt (λ r. r) (rw (after, get_or-replicate))
+  board_on (retract, Err n) right is after g h = row_stays _ _ _ _ _ _ log (get_or rows g open_row) (λ c. c) (λ r. r) (is ∙ retract_refused d log n right) (rw after) (ran.board g h)
   board_on (report goal s, Ok r) right is after g h =
       ⊎_elim
-      (λ own. row_judged d run (report goal s, Ok r) log log' g (get_or rows g open_row) (get_or rows' g open_row) own r.without r.with
-      (ap (λ xs. get_or xs g open_row) after ∙ ap (λ k. get_or (set rows k (judged_row r.without r.with)) g open_row) own ∙ get_or-set_same rows g (judged_row r.without r.with) open_row (omega (arith, long)))
-      (omega (arith, own, right.is_goal))
-      (subst (λ l. LeastCost d (Admitted d l g) r.without) (sym is) (subst (λ k. LeastCost d (Admitted d log k) r.without) own right.without))
-      (subst (λ l. LeastCost d (Whole d l g) r.with) (sym is) (subst (λ k. LeastCost d (Whole d log k) r.with) own right.with)))
-      (λ other. row_stays d run (report goal s, Ok r) log log' g (get_or rows g open_row) (get_or rows' g open_row) (λ c. c) other is
-      (ap (λ xs. get_or xs g open_row) after ∙ get_or-set_other rows goal g (judged_row r.without r.with) open_row (λ k. other (sym k)))
-      (ran.board g h))
+      (λ own. row_judged _ _ _ _ _ _ own r.without r.with (rw (after, own, get_or-set_same rows g (judged_row r.without r.with) open_row (omega (arith, long)))) (omega (arith, own, right.is_goal)) (rw (is, ← own) right.without) (rw (is, ← own) right.with))
+      (λ other. row_stays _ _ _ _ _ _ log (get_or rows g open_row) (λ c. c) other is (rw (after, get_or-set_other rows goal g (judged_row r.without r.with) open_row (λ k. other (sym k)))) (ran.board g h))
       (cases_eq goal g)
-  board_on (report goal s, Err n) right is after g h = row_stays d run (report goal s, Err n) log log' g (get_or rows g open_row) (get_or rows' g open_row) (λ c. c) (λ r. r) is (same_at g after) (ran.board g h)
+  board_on (report goal s, Err n) right is after g h = row_stays _ _ _ _ _ _ log (get_or rows g open_row) (λ c. c) (λ r. r) is (rw after) (ran.board g h)
 
   pub carried_on : (e : Event) → Right d log e → log' ≡ log_after d log e.0 → RowsAfter rows e rows' → Ran d (run ++ (e ∷ [])) log' rows'
   carried_on e right is after = record {
     answered = λ before x later o. go before x later (split run before e x later o.is);
-    logged = is ∙ ap (λ l. log_after d l e.0) ran.logged ∙ sym (book_from_lem d [] run e);
+    logged = rw (is, book_from_lem d [] run e, ran.logged);
     board = board_on e right is after;
   }
     where
       go : (before : List Event) (x : Event) (later : List Event) → Split run before e x later → Right d (book d before) x
-      go before x later (at_end s t u) = subst (λ h. Right d (book d h) x) (sym s) (subst (λ y. Right d (book d run) y) (sym t) (subst (λ l. Right d l e) ran.logged right))
+      go before x later (at_end s t u) = rw (s, t, ← ran.logged) right
       go before x later (within rest s t) = ran.answered before x rest (record { is = t })
 
 -- A watch that begins: no call was made.
@@ -192,10 +153,10 @@ begun d rows e = record {
   answered = λ before x later o. nonempty before x later o.is;
   logged = refl;
   board = λ g h.
-      let is : get_or rows g open_row ≡ open_row = ap (λ xs. get_or xs g open_row) e ∙ get_or-replicate 32 g open_row open_row h in
+      let is : get_or rows g open_row ≡ open_row = rw (e, get_or-replicate) in
       record {
         open_so = λ _ before x later o r. nonempty before x later o.is;
         so_open = λ _. is;
-        judged = λ v k. no_verdict v (sym (ap (λ (r : BoardRow). r.verdict) is) ∙ k);
+        judged = λ v k. let h = rw is at k in cc;
       };
 }

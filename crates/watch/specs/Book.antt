@@ -1,5 +1,5 @@
 -- The log that a run of calls comes to, worked out from the domain below and the calls alone.
-use Rattle.std.specs.Prelude.{ℕ, ◌-◌, cond, List, [], ◌∷◌, ◌++◌, length, take, is_ok}
+use Rattle.std.specs.Prelude.{ℕ, ◌-◌, if◌then◌else◌, List, [], ◌∷◌, ◌++◌, length, take, is_ok}
 use Rattle.domain.specs.Meaning.{Meaning}
 use Rattle.plans.specs.Watched.{watched}
 use Rattle.watched.specs.Noting.{add_outcome}
@@ -11,7 +11,7 @@ present d log = watched d log
 
 -- a note that is accepted appends its action, a retraction drops the last entry, if there is one, and a report changes nothing
 abbrev pub log_after : Meaning → List ℕ → Call → List ℕ
-log_after d log (note a) = cond (is_ok (add_outcome d log a)) (log ++ (a ∷ [])) log
+log_after d log (note a) = if is_ok (add_outcome d log a) then log ++ (a ∷ []) else log
 log_after d log retract = take (length log - 1) log
 log_after d log (report goal sizes) = log
 

@@ -23,8 +23,8 @@ pub enum Call {
 pub type Answer = Result<Option<Report>, WatchFault>;
 
 // A place for an answer, and for the plan of a report. A plan has fewer actions than a table may have rows.
-// A lent place and no list of the plan's length, which stands in the report: a call allocates nothing.
-#[derive(Clone, Copy, PartialEq, Eq, Debug)]
+// The plan's length stands in the report: the place is lent, so that no call allocates one.
+#[derive(Clone, Copy)]
 pub struct Slot {
     pub answer: Answer,
     pub plan: [u8; 4096],
