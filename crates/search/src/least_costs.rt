@@ -32,10 +32,8 @@ fn answer<D: Domain>(
     ensures { Found (D.meaning domain.now) goal known result.0.0 result.0.1 plan.old plan.new result.1 }
 {
     let (without, with) = cheapest_ends(domain, rows, known, goal);
-    let costs = (
-        without.map(|i| rows[i].node.cost),
-        with.map(|i| rows[i].node.cost),
-    );
+    let cost_of = |row: usize| rows[row].node.cost;
+    let costs = (without.map(cost_of), with.map(cost_of));
     let length = match with.or(without) {
         Some(row) => write_plan(rows, row, plan),
         None => 0,
