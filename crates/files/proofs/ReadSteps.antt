@@ -1,6 +1,6 @@
 -- Steps of the loops that read.
-use Rattle.std.proofs.Common.{◌≡◌, ℕ, suc, ◌+◌, ◌-◌, ◌*◌, ◌/◌, ◌<◌, ◌≤◌, Bool, true, false, cond, List, [], ◌∷◌, ◌++◌, length, get_or, drop, Ok, Err, Result, sym, refl, ap, ◌∙◌, append_assoc, add-zero, arith}
-use Rattle.std.proofs.lemmas.List.{at_drop_more, at_drop_all, append-nil}
+use Rattle.std.proofs.Common.{◌≡◌, ℕ, suc, ◌+◌, ◌-◌, ◌/◌, ◌<◌, ◌≤◌, Bool, true, false, cond, List, [], ◌∷◌, ◌++◌, length, get_or, drop, Ok, Err, Result, sym, refl, ap, ◌∙◌, append_assoc, add-zero, arith}
+use Rattle.std.proofs.lemmas.List.{at_drop_more, append-nil}
 use Rattle.domain.specs.declared.fault.ReadFault.{ReadFault}
 use Rattle.files.specs.declared.field.Field.{Field}
 use Rattle.files.specs.declared.field.Field.TheVariants.{Set, Place, Cost}
@@ -15,10 +15,6 @@ use Rattle.files.specs.Reading.{then, with_first, is_odd, read_field, read_field
 abbrev pub prefixed : {X Y : Type 0} → List X → Result (List X × Y) ReadFault → Result (List X × Y) ReadFault
 prefixed xs (Ok y) = Ok (xs ++ y.0, y.1)
 prefixed xs (Err e) = Err e
-
-pub prefixed_none : {X Y : Type 0} (xs : List X) (r : Result (List X × Y) ReadFault) → xs ≡ [] → r ≡ prefixed xs r
-prefixed_none xs (Ok y) e = ap (λ l. Ok (l ++ y.0, y.1)) (sym e)
-prefixed_none xs (Err f) e = refl
 
 pub prefixed_more : {X Y : Type 0} (xs : List X) (x : X) (r : Result (List X × Y) ReadFault) → prefixed xs (with_first x r) ≡ prefixed (xs ++ (x ∷ [])) r
 prefixed_more xs x (Ok y) = ap (λ l. Ok (l, y.1)) (sym (append_assoc xs (x ∷ []) y.0))
@@ -37,9 +33,6 @@ module _ (fs : List Field) (i : ℕ) where
   pub size_more : (m : ℕ) → i < length fs → size_of m (drop i fs) ≡ cond (is_odd m) (bytes_of (get_or fs i Set)) 0 + size_of (m / 2) (drop (i + 1) fs)
   size_more m h = at_drop_more (size_of m) fs i Set h
 
-  pub size_all : (m : ℕ) → length fs ≤ i → size_of m (drop i fs) ≡ 0
-  size_all m h = at_drop_all (size_of m) fs i h
-
   -- what was read before is vs, and the i-th field stands at a byte
   module _ (bs : List ℕ) (size r at m : ℕ) (vs : List ℕ) where
     abbrev Rest : Result (List ℕ × (ℕ × ℕ)) ReadFault
@@ -51,20 +44,10 @@ module _ (fs : List Field) (i : ℕ) where
     pub fields_ok : (v next : ℕ) → i < length fs → read_field bs size r at (get_or fs i Set) (is_odd m) ≡ Ok (v, next) → Rest ≡ prefixed (vs ++ (v ∷ [])) (read_fields bs size r next (m / 2) (drop (i + 1) fs))
     fields_ok v next h e = fields_more h ∙ turn_ok vs _ _ _ (v, next) e
 
-    pub fields_err : (f : ReadFault) → i < length fs → read_field bs size r at (get_or fs i Set) (is_odd m) ≡ Err f → Rest ≡ Err f
-    fields_err f h e = fields_more h ∙ turn_err vs _ _ _ f e
-
-    pub fields_all : length fs ≤ i → Rest ≡ Ok (vs, (m, at))
-    fields_all h = ap (prefixed vs) (at_drop_all (read_fields bs size r at m) fs i h) ∙ ap (λ l. Ok (l, (m, at))) (append-nil vs)
-
 pub bytes_few : (f : Field) → bytes_of f ≤ 7
 bytes_few Set = omega arith
 bytes_few Place = omega arith
 bytes_few Cost = omega arith
-
-pub size_few : (m : ℕ) (fs : List Field) → size_of m fs ≤ 7 * length fs
-size_few m [] = omega arith
-size_few m (f ∷ fs) = grind (arith, bytes_few, size_few (m / 2) fs)
 
 -- the byte after a field
 pub field_next : (bs : List ℕ) (size r at : ℕ) (f : Field) (b : Bool) (x : ℕ × ℕ) → read_field bs size r at f b ≡ Ok x → x.1 ≡ at + cond b (bytes_of f) 0
@@ -80,11 +63,6 @@ module _ {X : Type 0} (make : Entry → X) (k : Kind) (p : Part) (size : ℕ) (b
   parts_then : (r : Result (Entry × ℕ) ReadFault) (rest : ℕ → Result (List Entry × ℕ) ReadFault) → parts_with make (then r (λ x. with_first x.0 (rest x.1))) ≡ then (part_with make r) (λ x. with_first x.0 (parts_with make (rest x.1)))
   parts_then (Ok x) rest = parts_first x.0 (rest x.1)
   parts_then (Err f) rest = refl
-
-  pub parts_none : (n r at : ℕ) (xs : List X) → xs ≡ [] → parts_with make (read_records k p size bs n r at) ≡ prefixed xs (parts_with make (read_records k p size bs (n - 0) r at))
-  parts_none n r at xs e =
-      let whole : n ≡ n - 0 = omega arith in
-      ap (λ m. parts_with make (read_records k p size bs m r at)) whole ∙ prefixed_none xs _ e
 
   -- what was read before is xs, the i-th of n records stands next, and it is number r of the file
   module _ (n i r at : ℕ) (xs : List X) where

@@ -1,6 +1,5 @@
 -- Steps of the functions that write.
-use Rattle.std.proofs.Common.{◌≡◌, ℕ, ◌+◌, ◌-◌, ◌*◌, ◌%◌, ◌^◌, ◌<◌, ◌≤◌, Bool, true, false, not, List, [], ◌∷◌, ◌++◌, map, length, get_or, take, drop, set, Some, None, Option, is_some, SomeIff, Ok, Err, sym, refl, ap, ◌∙◌, subst, append_assoc, add-zero, arith}
-use native.Mathlib.Nat.{pow-le-pow_right}
+use Rattle.std.proofs.Common.{◌≡◌, ℕ, ◌+◌, ◌-◌, ◌*◌, ◌%◌, ◌<◌, ◌≤◌, List, [], ◌∷◌, ◌++◌, map, length, get_or, take, drop, set, Ok, Err, sym, refl, ap, ◌∙◌, subst, append_assoc, add-zero, arith}
 use Rattle.std.proofs.lemmas.List.{at_drop_more, drop_all, take_at, drop_at, length-take-le, drop-drop, drop_more, get_or-drop, length-append, length-drop, length-map, append-nil, take-append-drop, take_all}
 use Rattle.std.proofs.lemmas.List.Folds.{flat_map-map}
 use Rattle.std.proofs.lemmas.Bool.{le-leb, lt-leb, cond-true, cond-false}
@@ -14,11 +13,10 @@ use Rattle.files.specs.declared.kind.Kind.TheVariants.{Card, Map}
 use Rattle.files.specs.declared.kind.Part.{Part}
 use Rattle.files.specs.declared.kind.Part.TheVariants.{Action, Goal}
 use Rattle.files.specs.declared.layout.Layout.{Layout}
-use Rattle.files.specs.Contents.{Entry, mark_bit, is_written, bit_map, field_bytes, all_field_bytes, record_bytes, header_bytes, file_bytes}
-use Rattle.files.specs.Formats.{bytes_of, start_of, header_length, fields_of, is_markable, bit, bit_count}
+use Rattle.files.specs.Contents.{Entry, is_written, bit_map, field_bytes, all_field_bytes, record_bytes, header_bytes, file_bytes}
+use Rattle.files.specs.Formats.{bytes_of, start_of, header_length, fields_of, bit}
 use Rattle.files.specs.Writing.{Wrote, write_outcome, place_after, raw_of, records_of, file_length}
 use Rattle.files.proofs.Numerals.{length_spelled}
-use Rattle.files.proofs.Records.{bit_low, map_defined}
 
 -- bytes that are known by another name
 pub wrote_as : (xs ys p q : List ℕ) (n : ℕ) → xs ≡ ys → Wrote xs p q n → Wrote ys p q n
@@ -29,9 +27,6 @@ pub record Begun (bytes rest before after : List ℕ) (count : ℕ) : Type 0 whe
   pub front : take count after ++ rest ≡ bytes
   pub back : drop count after ≡ drop count before
   pub inside : count ≤ length after
-
-pub begun_none : (bytes place : List ℕ) → Begun bytes bytes place place 0
-begun_none bytes place = record { front = refl; back = refl; inside = omega arith }
 
 pub begun_first : (bytes xs ys p q : List ℕ) (n : ℕ) → xs ++ ys ≡ bytes → Wrote xs p q n → Begun bytes ys p q n
 begun_first bytes xs ys p q n e w =
@@ -88,7 +83,7 @@ module _ (fs : List Field) (vs : List ℕ) (i : ℕ) (h : i < length fs) where
   other_values : drop 1 (drop i vs) ≡ drop (i + 1) vs
   other_values = drop-drop 1 i vs
 
-  pub fields_first : all_field_bytes (drop i fs) (drop i vs) ≡ field_bytes (get_or fs i Set) (get_or vs i 0) ++ all_field_bytes (drop (i + 1) fs) (drop (i + 1) vs)
+  fields_first : all_field_bytes (drop i fs) (drop i vs) ≡ field_bytes (get_or fs i Set) (get_or vs i 0) ++ all_field_bytes (drop (i + 1) fs) (drop (i + 1) vs)
   fields_first =
       ap (λ gs. all_field_bytes gs (drop i vs)) (drop_more fs i Set h)
       ∙ ap (λ v. field_bytes (get_or fs i Set) v ++ all_field_bytes (drop (i + 1) fs) (drop 1 (drop i vs))) first_value
@@ -105,12 +100,6 @@ fields_few Card Action = omega arith
 fields_few Card Goal = omega arith
 fields_few Map Action = omega arith
 fields_few Map Goal = omega arith
-
--- a bit map takes one byte
-pub map_byte : (k : Kind) (p : Part) (e : Entry) → bit_map (fields_of k p) e.values (mark_bit p e) < 64
-map_byte k p e =
-    let narrow : 2 ^ bit_count k p ≤ 2 ^ 5 = pow-le-pow_right {n = 2} (omega arith) {i = bit_count k p} {j = 5} (omega (arith, fields_few k p, bit_low (is_markable p))) in
-    omega (arith, map_defined k p e)
 
 -- the fields from the i-th on, and the records of the items from the i-th on
 pub fields_next : (fs : List Field) (vs : List ℕ) (i v : ℕ) (bytes p q : List ℕ) (m : ℕ) → i < length fs → v ≡ get_or vs i 0
@@ -169,12 +158,3 @@ module _ (bytes place : List ℕ) where
 
   pub wrote_nothing : length place < length bytes → (Err Place ≡ write_outcome bytes place) × (place ≡ place_after bytes place)
   wrote_nothing h = let short = lt-leb (length bytes) (length place) h in (sym (cond-false _ _ _ short), sym (cond-false _ _ _ short))
-
--- what a test for room tells
-pub none_room : (b : Bool) (left : Option ℕ) (size room : ℕ) → SomeIff left (size ≤ room) (room - size) → is_some left ≡ not b → b ≡ true → room < size
-none_room b None size room h e t = omega arith
-none_room b (Some n) size room h e t = let z : true ≡ false = e ∙ ap not t in cc
-
-pub some_room : (b : Bool) (left : Option ℕ) (size room : ℕ) → SomeIff left (size ≤ room) (room - size) → is_some left ≡ not b → b ≡ false → size ≤ room
-some_room b None size room h e t = let z : false ≡ true = e ∙ ap not t in cc
-some_room b (Some n) size room h e t = h.0

@@ -3,7 +3,7 @@ pub mod Numbers
 pub mod Formats
 pub mod Contents
 pub mod Reading
-pub mod Places
+pub mod Cursors
 pub mod Exact
 pub mod Outcome
 pub mod Writing

@@ -66,10 +66,11 @@ impl Field {
         requires { length (field_bytes self value) ≤ length place.old }
         ensures { Wrote (field_bytes self value) place.old place.new result }
     {
-        if self.is_written(value) {
-            write_number(value, self.bytes(), place)
-        } else {
-            0
+        if !self.is_written(value) {
+            return 0;
         }
+        let count = self.bytes();
+        write_number(value, &mut place[..count]);
+        count
     }
 }

@@ -24,7 +24,7 @@ fn read_count(bytes: &[u8], byte: usize, most: u8) -> Result<u8, ReadFault>
     ensures { result ≡ read_count bytes.now byte most }
 {
     let count = bytes[byte];
-    if count < 1 || count > most {
+    if !(1..=most).contains(&count) {
         return Err(ReadFault::Count(Position { record: 0, byte }));
     }
     Ok(count)
@@ -77,6 +77,8 @@ impl Header {
         ensures { Wrote (header_bytes kind self.size self.actions self.goals self.start) place.old place.new result }
     {
         place[..4].copy_from_slice(&[kind.letter(), self.size, self.actions, self.goals]);
-        4 + write_number(self.start, kind.start().bytes(), &mut place[4..])
+        let end = kind.header_length();
+        write_number(self.start, &mut place[4..end]);
+        end
     }
 }

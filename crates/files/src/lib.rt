@@ -1,6 +1,7 @@
 // Domain files: the two formats, read and written by one set of functions.
 #![tactic(auto)]
 
+mod cursor;
 mod field;
 pub mod file;
 mod header;
@@ -8,6 +9,5 @@ pub mod kind;
 mod layout;
 mod numbers;
 pub mod read_file;
-mod read_record;
 pub mod record;
 pub mod write_file;

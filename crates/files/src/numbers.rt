@@ -1,7 +1,6 @@
 // Numbers as bytes, lowest first.
 ghost use Rattle.std.specs.Prelude.{◌≡◌, ◌^◌, ◌<◌, ◌≤◌, ◌↔◌, IsTrue, length};
 ghost use Rattle.files.specs.Numbers.{little, spelled};
-ghost use Rattle.files.specs.Writing.{Wrote};
 
 // The number that the bytes spell.
 pub(crate) fn read_number(bytes: &[u8]) -> u64
@@ -23,12 +22,10 @@ pub(crate) fn has_bits(value: u64, bits: u8) -> bool
     }
 }
 
-// The number's lowest bytes into the front of the place; the answer is how many they are.
-pub(crate) fn write_number(value: u64, count: usize, place: &mut [u8]) -> usize
-    requires few { count ≤ 8 }
-    requires fit { count ≤ length place.old }
-    ensures { Wrote (spelled count value) place.old place.new result }
+// The number's lowest bytes, as many as the place has.
+pub(crate) fn write_number(value: u64, place: &mut [u8])
+    requires { length place.old ≤ 8 }
+    ensures { place.new ≡ spelled (length place.old) value }
 {
-    place[..count].copy_from_slice(&value.to_le_bytes()[..count]);
-    count
+    place.copy_from_slice(&value.to_le_bytes()[..place.len()]);
 }

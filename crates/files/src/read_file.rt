@@ -2,14 +2,14 @@
 ghost use Rattle.std.specs.Prelude.{◌≡◌, ◌+◌, ◌≤◌, IfErr, vec_len, vec_capacity};
 ghost use Rattle.files.specs.Exact.{ReadExactly};
 ghost use Rattle.files.specs.Outcome.{outcome, SameRoom};
-ghost use Rattle.files.specs.Places.{parts_at};
+ghost use Rattle.files.specs.Cursors.{parts_at};
 ghost use Rattle.files.specs.Reading.{read_file, file_with, joined_to, headed};
 
+use crate::cursor::Cursor;
 use crate::file::{File, Unread};
 use crate::header::Header;
 use crate::kind::{Kind, Part};
 use crate::layout::Layout;
-use crate::read_record::Cursor;
 use crate::record::Record;
 use domain::fault::{Position, ReadFault};
 use domain::room::Room;

@@ -24,8 +24,5 @@ pub trait Record: Sized {
 pub fn value_at(values: &[u64], field: usize) -> u64
     ensures { result ≡ slice_index values.now field }
 {
-    match values.get(field) {
-        Some(value) => *value,
-        None => 0,
-    }
+    values.get(field).copied().unwrap_or(0)
 }

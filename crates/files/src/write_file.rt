@@ -58,9 +58,7 @@ pub fn write_file<S: Record, G: Record>(
     ensures value { result ≡ write_outcome (file_bytes kind (raw_of S.written G.written size start actions.now goals.now)) place.old }
     ensures place { place.new ≡ place_after (file_bytes kind (raw_of S.written G.written size start actions.now goals.now)) place.old }
 {
-    if room_after_file(kind, actions, goals, place.len()).is_none() {
-        return Err(WriteFault::Place);
-    }
+    room_after_file(kind, actions, goals, place.len()).ok_or(WriteFault::Place)?;
     let header = Header::new(size, actions.len(), goals.len(), start);
     let mut count = header.write(kind, place);
     count += write_parts(kind.layout(Part::Action), actions, &mut place[count..]);

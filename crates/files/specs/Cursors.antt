@@ -4,7 +4,7 @@ use Rattle.domain.specs.declared.fault.Position.{Position}
 use Rattle.domain.specs.declared.fault.ReadFault.{ReadFault}
 use Rattle.files.specs.declared.field.Field.{Field}
 use Rattle.files.specs.declared.layout.Layout.{Layout}
-use Rattle.files.specs.declared.read_record.Cursor.{Cursor}
+use Rattle.files.specs.declared.cursor.Cursor.{Cursor}
 use Rattle.files.specs.Contents.{Entry}
 use Rattle.files.specs.Formats.{fields_of}
 use Rattle.files.specs.Reading.{position, read_field, read_fields, read_record, read_records, parts_with}

@@ -1,7 +1,7 @@
 use Rattle.std.proofs.Common.{◌≡◌, ◌+◌, ◌≤◌, length, take, drop}
 use Rattle.files.specs.Reading.{read_fields, size_of}
 use Rattle.files.proofs.ReadSteps.{prefixed}
-use Rattle.files.proofs.read_record.Cursor.fields.Given as goal
+use Rattle.files.proofs.cursor.Cursor.fields.Given as goal
 
 abbrev pub invariant-loop-i : goal.invariant-loop-i
 invariant-loop-i l =

@@ -4,7 +4,7 @@ use Rattle.files.specs.declared.field.Field.TheVariants.{Set}
 use Rattle.files.specs.Reading.{is_odd, read_fields}
 use Rattle.files.proofs.ReadSteps.{prefixed, size_more, fields_ok, field_next}
 use Rattle.files.proofs.WriteSteps.{fields_few}
-use Rattle.files.proofs.read_record.Cursor.fields.Goals as goal
+use Rattle.files.proofs.cursor.Cursor.fields.Goals as goal
 
 pub loop-i-preserved : goal.loop-i-preserved
 loop-i-preserved c =

@@ -1,8 +1,8 @@
-// Reading one record.
+// Reading one record, from a place in a file.
 ghost use Rattle.std.specs.Prelude.{◌≡◌, ◌+◌, ◌≤◌, true, length};
 ghost use Rattle.files.specs.Formats.{bytes_of, fields_of};
 ghost use Rattle.files.specs.Reading.{size_of, part_with};
-ghost use Rattle.files.specs.Places.{field_at, fields_at, record_at, first_values};
+ghost use Rattle.files.specs.Cursors.{field_at, fields_at, record_at, first_values};
 
 use crate::field::Field;
 use crate::layout::Layout;
@@ -58,12 +58,12 @@ impl Cursor<'_> {
     pub(crate) fn record<R: Record>(self, layout: Layout) -> Result<(R, usize), ReadFault>
         ensures { result ≡ part_with R.made (record_at self.entry layout) }
     {
-        let cut = Position {
+        let cut = ReadFault::Cut(Position {
             byte: self.bytes.len(),
             ..self.at
-        };
+        });
         let Some(map) = self.bytes.get(self.at.byte) else {
-            return Err(ReadFault::Cut(cut));
+            return Err(cut);
         };
         if !has_bits(u64::from(*map), layout.bit_count()) {
             return Err(ReadFault::Bits(self.at));
@@ -73,7 +73,7 @@ impl Cursor<'_> {
             ..self.at
         };
         if self.bytes.len() - at.byte < layout.fields_size(*map) {
-            return Err(ReadFault::Cut(cut));
+            return Err(cut);
         }
         let (values, rest, next) = Cursor { at, ..self }.fields(layout, *map)?;
         let count = layout.fields().len();
