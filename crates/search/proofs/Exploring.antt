@@ -6,6 +6,7 @@ use Rattle.std.proofs.lemmas.Bool.{cases_Bool, cases_eq, true≢false}
 use Rattle.domain.specs.Meaning.{Meaning}
 use Rattle.heap.specs.Pushing.{Pushed, TracksPushed}
 use Rattle.heap.proofs.Orders.{none_ordered}
+use Rattle.heap.proofs.Tracking.{none_tracked}
 use Rattle.table.specs.declared.row.Node.{Node}
 use Rattle.table.specs.declared.row.Row.{Row}
 use Rattle.table.specs.Index.{Indexed, Added}
@@ -24,7 +25,7 @@ none_waits : (rows : List Row) (xs : List Entry) → length xs ≡ 0 → Waiting
 none_waits rows xs e = record {
   each = All-from_get_or (Waits (node rows) 0) xs (record { cost = 0; state = 0; row = 0 }) (λ i h. absurd (omega arith));
   all = λ i h s. absurd (omega arith);
-  tracked = ((λ i j d h k u. absurd (omega arith)), (λ k d h. absurd (omega arith)));
+  tracked = none_tracked noted apart rows xs e;
   ordered = none_ordered order xs e;
 }
 

@@ -1,7 +1,6 @@
 -- A way that is offered to the table: the first to its state, or a cheaper one.
-use Rattle.std.proofs.Common.{◌≡◌, ℕ, ◌+◌, ◌<◌, List, length, get_or, take, None, sym, refl, ap, ◌∙◌, subst, ⊎_elim, arith}
+use Rattle.std.proofs.Common.{◌≡◌, ℕ, ◌+◌, ◌<◌, List, length, get_or, take, None, sym, refl, ap, ◌∙◌, subst, arith}
 use Rattle.std.proofs.lemmas.List.{get_or-take, length-take-le}
-use Rattle.std.proofs.lemmas.Bool.{cases_eq}
 use Rattle.domain.specs.Meaning.{Meaning}
 use Rattle.heap.specs.Lowering.{Lowers, Lowered, TracksLowered}
 use Rattle.heap.specs.Pushing.{Pushed, TracksPushed}
@@ -9,7 +8,7 @@ use Rattle.table.specs.declared.row.Node.{Node}
 use Rattle.table.specs.declared.row.Row.{Row}
 use Rattle.table.specs.Index.{Indexed, Found, Put, Added}
 use Rattle.table.specs.Rows.{at, node}
-use Rattle.table.proofs.Chains.{indexed_over}
+use Rattle.table.proofs.Chains.{indexed_over, put_indexed}
 use Rattle.search.specs.declared.entry.Entry.{Entry}
 use Rattle.search.specs.Entries.{entry_of, ordered, order, noted, apart, Kept}
 use Rattle.search.specs.Searching.{Sound, Waiting, Grew, Searching, Offered, Reached}
@@ -65,13 +64,11 @@ module _ (m : Meaning) (level : ℕ) (rows rows' rows'' : List Row) (n : ℕ) (l
       let tracks = subst (λ y. TracksLowered noted apart w (at rows i).place y list list' rows' rows'') is tracks_x in
       let here : node rows' i ≡ v = put.here (omega (arith, s.indexed.fits)) in
       let others : (k : ℕ) → (k ≡ i → ⊥) → node rows' k ≡ node rows k = λ k u. ap (λ r. r.node) (put.others k u) in
-      let states : (k : ℕ) → (node rows' k).state ≡ (node rows k).state = λ k. ⊎_elim (λ e. ap (λ r. (node rows' r).state) e ∙ ap (λ x. x.state) here ∙ same ∙ sym (ap (λ r. (node rows r).state) e)) (λ u. ap (λ x. x.state) (others k u)) (cases_eq k i) in
-      let links : (k : ℕ) → (at rows' k).link ≡ (at rows k).link = λ k. ⊎_elim (λ e. ap (λ r. (at rows' r).link) e ∙ put.link ∙ sym (ap (λ r. (at rows r).link) e)) (λ u. ap (λ x. x.link) (put.others k u)) (cases_eq k i) in
       record {
         searching = record {
           small = omega (arith, s.small, kept.long, put.long);
           long = omega (arith, s.long, kept.long, put.long, lowered.long);
-          indexed = kept_indexed rows' rows'' n kept (indexed_over rows rows' n put.long states links s.indexed);
+          indexed = kept_indexed rows' rows'' n kept (put_indexed rows rows' i v put n (omega (arith, low, s.indexed.fits)) same s.indexed);
           sound = subst (λ f. Sound m f n w level) (sym nodes_same) (sound_cheaper (node rows) (node rows') i v here others m n w level low offered same cheaper s.sound);
           waiting = waiting_lowered rows rows' rows'' n i v (take w list) (take w list') s.indexed.fits low (waits_still m (node rows) n w level i v low offered cheaper s.sound) put offered.unsettled kept s.waiting lowered.entries (lowered.ordered order) tracks;
         };

@@ -10,13 +10,13 @@ use Rattle.plans.specs.Reachable.{MoreThan}
 use Rattle.table.specs.declared.row.Node.{Node}
 use Rattle.table.specs.declared.row.Row.{Row}
 use Rattle.table.specs.Index.{Found, Put}
-use Rattle.table.specs.Rows.{at, node}
-use Rattle.table.proofs.Chains.{indexed_over}
+use Rattle.table.specs.Rows.{node}
+use Rattle.table.proofs.Chains.{put_indexed}
 use Rattle.search.specs.declared.entry.Entry.{Entry}
 use Rattle.search.specs.Entries.{ordered, order, noted, apart, Kept}
 use Rattle.search.specs.Searching.{Waits, Waiting, Searching, Offered, Reached, as_settled, Settled, Expanded}
 use Rattle.search.specs.Ways.{KnownAt}
-use Rattle.search.proofs.Nodes.{sound_settled, known_over, grew_same, grew_chain}
+use Rattle.search.proofs.Nodes.{sound_settled, known_over, grew_chain}
 use Rattle.search.proofs.Paths.{path_to, path_on, more_than}
 use Rattle.search.proofs.Reaching.{kept_indexed}
 use Rattle.search.proofs.WaitingLists.{waiting_taken, least_cost}
@@ -66,10 +66,7 @@ module _ (m : Meaning) (level : ℕ) (rows rows' rows'' : List Row) (n : ℕ) (l
     searching = record {
       small = omega (arith, s.small, kept.long, put.long);
       long = omega (arith, s.long, kept.long, put.long, taken.long);
-      indexed = indexed_over rows' rows'' n put.long
-          (λ k. ⊎_elim (λ e. ap (λ r. (node rows'' r).state) e ∙ ap (λ v. v.state) here ∙ sym (ap (λ v. v.state) same_node) ∙ sym (ap (λ r. (node rows' r).state) e)) (λ u. ap (λ r. r.node.state) (put.others k u)) (cases_eq k x.row))
-          (λ k. ⊎_elim (λ e. ap (λ r. (at rows'' r).link) e ∙ put.link ∙ sym (ap (λ r. (at rows' r).link) e)) (λ u. ap (λ r. r.link) (put.others k u)) (cases_eq k x.row))
-          (kept_indexed rows rows' n kept s.indexed);
+      indexed = put_indexed rows' rows'' x.row (as_settled (node rows' x.row)) put n (omega (arith, waits.row, s.indexed.fits, kept.long)) refl (kept_indexed rows rows' n kept s.indexed);
       sound = sound_settled (node rows) (node rows'') x.row (as_settled (node rows x.row)) here others m n w w' level waits.row waits.unsettled refl taken.fewer least s.sound;
       waiting = waiting_taken rows rows' rows'' n x (as_settled (node rows' x.row)) (take w list) (take w' list') kept put refl s.indexed.fits taken.entries s.waiting (taken.ordered order s.waiting.ordered) (tracks s.waiting.tracked);
     };
@@ -77,9 +74,6 @@ module _ (m : Meaning) (level : ℕ) (rows rows' rows'' : List Row) (n : ℕ) (l
 
 -- Offering what the actions lead to from row i, one action after another.
 module _ (m : Meaning) (limits : Limits m) (before : List Row) (n w i : ℕ) (low : i < n) (settled : (node before i).settled ≡ true) where
-  pub expand_begins : (list : List Entry) → Searching m before n list w (node before i).cost → Expanded m before n w i 0 before n list w
-  expand_begins list s = record { searching = s; grew = grew_same (node before) n w; closed = λ a h r. absurd (omega arith); same_length = refl }
-
   module _ (rows : List Row) (n' : ℕ) (list : List Entry) (w' a : ℕ) (so : Expanded m before n w i a rows n' list w') where
     still : node rows i ≡ node before i
     still = so.grew.settled i low settled
@@ -99,12 +93,6 @@ module _ (m : Meaning) (limits : Limits m) (before : List Row) (n w i : ℕ) (lo
     -- few rows, so that costs and steps are small
     pub steps_small : (node before i).steps < 4096
     steps_small = omega (arith, own_steps, so.searching.indexed.fits, so.searching.small)
-
-    pub cost_small : (node before i).cost ≤ 245760000
-    cost_small = omega (arith, own_cost, steps_small)
-
-    pub rows_known : n' ≤ length rows
-    rows_known = so.searching.indexed.fits
 
     -- an action that leads elsewhere can run
     runs_if : (m.next (node before i).state a ≡ (node before i).state → ⊥) → m.runs (node before i).state a ≡ true

@@ -8,11 +8,12 @@ use Rattle.std.proofs.lemmas.List.{length-set, get_or-set_same, get_or-set_other
 use Rattle.std.proofs.lemmas.Bool.{cases_eq, lt-ltb, ltb-false, true≢false}
 use Rattle.heap.specs.Order.{HeapOrder, Least}
 use Rattle.heap.specs.Tracking.{Apart, Noted, NotedBut, Tracked}
-use Rattle.heap.proofs.Tracking.{apart_shuffled}
+use Rattle.heap.proofs.Tracking.{apart_shuffled, apart_more, apart_set}
 use Rattle.table.specs.declared.row.Node.{Node}
 use Rattle.table.specs.declared.row.Row.{Row}
 use Rattle.table.specs.Index.{Put, Added}
 use Rattle.table.specs.Rows.{at, node}
+use Rattle.table.proofs.Chains.{put_places}
 use Rattle.search.specs.declared.entry.Entry.{Entry}
 use Rattle.search.specs.Entries.{entry_of, ordered, order, noted, apart, Kept}
 use Rattle.search.specs.Searching.{Waits, AllWait, Waiting}
@@ -68,10 +69,7 @@ module _ (rows rows' rows'' : List Row) (n : ℕ) (v : Node) (xs ys : List Entry
   row_low k d h = (All-get_or (Waits (node rows) n) xs k d h waiting.each).row
 
   apart_pushed : Apart apart (entry_of v n ∷ xs)
-  apart_pushed zero zero d h k u = absurd (u refl)
-  apart_pushed zero (suc j) d h k u = λ e. omega (arith, row_low j d (omega arith))
-  apart_pushed (suc i) zero d h k u = λ e. omega (arith, row_low i d (omega arith))
-  apart_pushed (suc i) (suc j) d h k u = waiting.tracked.0 i j d (omega arith) (omega arith) (λ e. u (ap suc e))
+  apart_pushed = apart_more apart (entry_of v n) xs waiting.tracked.0 (λ k d h. (λ e. omega (arith, row_low k d h), λ e. omega (arith, row_low k d h)))
 
   noted_pushed : Noted noted rows' xs
   noted_pushed k d h = noted_over rows rows' (get_or xs k d) k added.long added.places (waiting.tracked.1 k d h)
@@ -120,9 +118,6 @@ module _ (rows rows' rows'' : List Row) (n i : ℕ) (v : Node) (xs ys : List Ent
   node_other : (k : ℕ) → (k ≡ i → ⊥) → node rows' k ≡ node rows k
   node_other k u = ap (λ r. r.node) (put.others k u)
 
-  place_same : (k : ℕ) → (at rows' k).place ≡ (at rows k).place
-  place_same k = ⊎_elim (λ e. ap (λ r. (at rows' r).place) e ∙ put.place ∙ sym (ap (λ r. (at rows r).place) e)) (λ u. ap (λ r. r.place) (put.others k u)) (cases_eq k i)
-
   entry_other : (k : ℕ) (d : Entry) → (k ≡ p → ⊥) → get_or (set xs p (entry_of v i)) k d ≡ get_or xs k d
   entry_other k d u = get_or-set_other xs p k (entry_of v i) d u
 
@@ -154,18 +149,10 @@ module _ (rows rows' rows'' : List Row) (n i : ℕ) (v : Node) (xs ys : List Ent
       (cases_eq j i)
 
   apart_lowered : Apart apart (set xs p (entry_of v i))
-  apart_lowered k l d h h' u =
-      let size = length-set xs p (entry_of v i) in
-      ⊎_elim
-      (λ a. λ e. other_row l d (omega arith) (λ b. u (a ∙ sym b)) (sym (ap (λ (y : Entry). y.row) (entry_other l d (λ b. u (a ∙ sym b)))) ∙ sym e ∙ ap (λ (y : Entry). y.row) (ap (λ q. get_or (set xs p (entry_of v i)) q d) a ∙ entry_here d)))
-      (λ a. ⊎_elim
-      (λ b. λ e. other_row k d (omega arith) a (sym (ap (λ (y : Entry). y.row) (entry_other k d a)) ∙ e ∙ ap (λ (y : Entry). y.row) (ap (λ q. get_or (set xs p (entry_of v i)) q d) b ∙ entry_here d)))
-      (λ b. λ e. waiting.tracked.0 k l d (omega arith) (omega arith) u (sym (ap (λ (y : Entry). y.row) (entry_other k d a)) ∙ e ∙ ap (λ (y : Entry). y.row) (entry_other l d b)))
-      (cases_eq l p))
-      (cases_eq k p)
+  apart_lowered = apart_set apart xs p (entry_of v i) waiting.tracked.0 (λ k d h u. (λ e. other_row k d h u (sym e), other_row k d h u))
 
   noted_lowered : NotedBut noted p rows' xs
-  noted_lowered k d h u = noted_over rows rows' (get_or xs k d) k put.long place_same (waiting.tracked.1 k d h)
+  noted_lowered k d h u = noted_over rows rows' (get_or xs k d) k put.long (put_places rows rows' i v put) (waiting.tracked.1 k d h)
 
   pub waiting_lowered : IsPermutation (set xs (at rows i).place (entry_of v i)) ys → (HeapOrder order xs → HeapOrder order ys) → (Apart apart (set xs (at rows i).place (entry_of v i)) → NotedBut noted (at rows i).place rows' xs → Tracked noted apart rows'' ys) → Waiting rows'' n ys
   unfolding p
@@ -200,14 +187,11 @@ module _ (rows rows' rows'' : List Row) (n : ℕ) (x : Entry) (v : Node) (xs ys 
       (λ in_ys. (y.0, (in_ys, y.1.1)))
       (in_tail y.0 (has_shuffled xs (x ∷ ys) y.0 shuffled y.1.0))
 
-  place_stays : (k : ℕ) → (at rows'' k).place ≡ (at rows' k).place
-  place_stays k = ⊎_elim (λ e. ap (λ r. (at rows'' r).place) e ∙ put.place ∙ sym (ap (λ r. (at rows' r).place) e)) (λ u. ap (λ r. r.place) (put.others k u)) (cases_eq k x.row)
-
   pub waiting_taken : HeapOrder order ys → Tracked noted apart rows' ys → Waiting rows'' n ys
   waiting_taken ordered tracked = record {
     each = each_left;
     all = all_left;
-    tracked = (tracked.0, λ k d h. noted_over rows' rows'' (get_or ys k d) k put.long place_stays (tracked.1 k d h));
+    tracked = (tracked.0, λ k d h. noted_over rows' rows'' (get_or ys k d) k put.long (put_places rows' rows'' x.row v put) (tracked.1 k d h));
     ordered = ordered;
   }
 

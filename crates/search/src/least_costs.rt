@@ -1,6 +1,5 @@
 // The pair of least costs, and a cheapest plan.
-ghost use Rattle.std.specs.Prelude.{◌≡◌, ◌<◌, ◌≤◌, length, IfSome, Decides};
-ghost use Rattle.std.specs.Option.{option_map};
+ghost use Rattle.std.specs.Prelude.{◌≡◌, ◌≤◌, ◌↔◌, length, IsTrue};
 ghost use Rattle.table.specs.Rows.{node};
 ghost use Rattle.search.specs.Answers.{Suited, Found, Answered, TablesStay};
 ghost use Rattle.search.specs.Solved.{Solved};
@@ -15,7 +14,7 @@ use table::row::Row;
 
 // Whether there are 1 to 4096 rows, and no fewer places to wait in and for the plan.
 fn suited(rows: usize, waiting: usize, places: usize) -> bool
-    ensures { Decides result (Suited (record { rows = rows; waiting = waiting; places = places })) }
+    ensures { IsTrue result ↔ Suited (record { rows = rows; waiting = waiting; places = places }) }
 {
     1 <= rows && rows <= 4096 && rows <= waiting && rows <= places
 }

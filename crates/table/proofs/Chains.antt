@@ -1,12 +1,11 @@
 -- Following a chain, and adding a row to one.
-use Rattle.std.proofs.Common.{◌≡◌, ℕ, ◌+◌, ◌<◌, ◌≤◌, List, length, set, Some, None, Option, sym, refl, ap, ◌∙◌, subst, ⊎_elim, arith}
+use Rattle.std.proofs.Common.{◌≡◌, ℕ, ◌+◌, ◌<◌, ◌≤◌, List, length, Some, None, Option, sym, ap, ◌∙◌, subst, ⊎_elim, arith}
 use Rattle.std.proofs.lemmas.Nat.{mod_below}
-use Rattle.std.proofs.lemmas.List.{length-set, get_or-set_same, get_or-set_other}
 use Rattle.std.proofs.lemmas.Bool.{cases_eq}
 use Rattle.table.specs.declared.row.Node.{Node}
 use Rattle.table.specs.declared.row.Row.{Row}
 use Rattle.table.specs.Index.{chain_of, chain, Latest, Indexed, Put, Linked, Added}
-use Rattle.table.specs.Rows.{blank_row, at, node}
+use Rattle.table.specs.Rows.{at, node}
 
 -- the state is not among the rows from bound on, and seek is the latest row of its chain before
 abbrev pub Seeking : List Row → ℕ → ℕ → ℕ → Option ℕ → Type 0
@@ -31,27 +30,23 @@ latest_more : (rows : List Row) (n b : ℕ) (o : Option ℕ) → (chain rows n �
 latest_more rows n b None other l = λ i h e. ⊎_elim (λ same. other (ap (chain rows) (sym same) ∙ e)) (λ apart. l i (omega arith) e) (cases_eq i n)
 latest_more rows n b (Some j) other l = (omega (arith, l.0), l.1, λ i h k e. ⊎_elim (λ same. other (ap (chain rows) (sym same) ∙ e)) (λ apart. l.2 i h (omega arith) e) (cases_eq i n))
 
--- One row changed: what it has in common with the row before stays everywhere.
-stays : {X : Type 0} (f : Row → X) (rows : List Row) (i : ℕ) (r : Row) → i < length rows → f r ≡ f (at rows i) → (k : ℕ) → f (at (set rows i r) k) ≡ f (at rows k)
-stays f rows i r h e k =
-    ⊎_elim
-    (λ same. ap (λ j. f (at (set rows i r) j)) same ∙ ap f (get_or-set_same rows i r blank_row h) ∙ e ∙ ap (λ j. f (at rows j)) (sym same))
-    (λ apart. ap f (get_or-set_other rows i k r blank_row apart))
-    (cases_eq k i)
+-- Another node in row i.
+module _ (xs ys : List Row) (i : ℕ) (new : Node) (put : Put xs i new ys) where
+  pub put_places : (k : ℕ) → (at ys k).place ≡ (at xs k).place
+  put_places k = ⊎_elim (λ same. ap (λ j. (at ys j).place) same ∙ put.place ∙ ap (λ j. (at xs j).place) (sym same)) (λ apart. ap (λ r. r.place) (put.others k apart)) (cases_eq k i)
 
-module _ (rows : List Row) (i : ℕ) (low : i < length rows) where
-  module _ (new : Node) where
-    abbrev with_node : List Row
-    with_node = set rows i (record { node = new; place = (at rows i).place; link = (at rows i).link })
+  put_links : (k : ℕ) → (at ys k).link ≡ (at xs k).link
+  put_links k = ⊎_elim (λ same. ap (λ j. (at ys j).link) same ∙ put.link ∙ ap (λ j. (at xs j).link) (sym same)) (λ apart. ap (λ r. r.link) (put.others k apart)) (cases_eq k i)
 
-    pub put_indexed : (n : ℕ) → (node rows i).state ≡ new.state → Indexed rows n → Indexed with_node n
-    put_indexed n same = indexed_over rows with_node n (length-set rows i _) (stays (λ r. r.node.state) rows i _ low (sym same)) (stays (λ r. r.link) rows i _ low refl)
+  put_states : i < length xs → new.state ≡ (node xs i).state → (k : ℕ) → (node ys k).state ≡ (node xs k).state
+  put_states low state k = ⊎_elim (λ same. ap (λ j. (node ys j).state) same ∙ ap (λ v. v.state) (put.here low) ∙ state ∙ ap (λ j. (node xs j).state) (sym same)) (λ apart. ap (λ r. r.node.state) (put.others k apart)) (cases_eq k i)
+
+  -- a row whose state stays is found as before
+  pub put_indexed : (n : ℕ) → i < length xs → new.state ≡ (node xs i).state → Indexed xs n → Indexed ys n
+  put_indexed n low state = indexed_over xs ys n put.long (put_states low state) put_links
 
 -- A node put into row n, which then joins its chain.
 module _ (xs ys zs : List Row) (n : ℕ) (new : Node) (low : n < length xs) (put : Put xs n new ys) (linked : Linked ys n zs) where
-  put_links : (k : ℕ) → (at ys k).link ≡ (at xs k).link
-  put_links k = ⊎_elim (λ same. ap (λ j. (at ys j).link) same ∙ put.link ∙ ap (λ j. (at xs j).link) (sym same)) (λ apart. ap (λ r. r.link) (put.others k apart)) (cases_eq k n)
-
   nodes_before : (k : ℕ) → (k ≡ n → ⊥) → node zs k ≡ node xs k
   nodes_before k apart = linked.nodes k ∙ ap (λ r. r.node) (put.others k apart)
 
@@ -76,15 +71,15 @@ module _ (xs ys zs : List Row) (n : ℕ) (new : Node) (low : n < length xs) (put
     heads = λ b h. ⊎_elim
         (λ same. subst (λ o. Latest zs (n + 1) b o) (sym (ap (λ c. (at zs c).link.head) same ∙ linked.head)) (omega arith, chain_new ∙ sym same, λ i l k e. absurd (omega arith)))
         (λ apart.
-        let stayed : (at zs b).link.head ≡ (at xs b).link.head = linked.heads b apart ∙ ap (λ l. l.head) (put_links b) in
+        let stayed : (at zs b).link.head ≡ (at xs b).link.head = linked.heads b apart ∙ ap (λ l. l.head) (put_links xs ys n new put b) in
         subst (λ o. Latest zs (n + 1) b o) (sym stayed) (latest_more zs n b _ (λ e. apart (sym e ∙ chain_new)) (over n b _ (omega arith) (ok.heads b (omega (arith, long))))))
         (cases_eq b (chain ys n));
     nexts = λ i h. ⊎_elim
         (λ same.
-        let head : (at zs n).link.next ≡ (at xs (chain zs n)).link.head = linked.next ∙ ap (λ l. l.head) (put_links (chain ys n)) ∙ ap (λ c. (at xs c).link.head) (sym chain_new) in
+        let head : (at zs n).link.next ≡ (at xs (chain zs n)).link.head = linked.next ∙ ap (λ l. l.head) (put_links xs ys n new put (chain ys n)) ∙ ap (λ c. (at xs c).link.head) (sym chain_new) in
         subst (λ j. Latest zs j (chain zs j) (at zs j).link.next) (sym same) (subst (λ o. Latest zs n (chain zs n) o) (sym head) (over n (chain zs n) _ (omega arith) (ok.heads (chain zs n) chain_low))))
         (λ apart.
-        let stayed : (at zs i).link.next ≡ (at xs i).link.next = linked.nexts i apart ∙ ap (λ l. l.next) (put_links i) in
+        let stayed : (at zs i).link.next ≡ (at xs i).link.next = linked.nexts i apart ∙ ap (λ l. l.next) (put_links xs ys n new put i) in
         subst (λ o. Latest zs i (chain zs i) o) (sym stayed) (subst (λ b. Latest zs i b (at xs i).link.next) (sym (chain_before i apart)) (over i (chain xs i) _ (omega arith) (ok.nexts i (omega arith)))))
         (cases_eq i n);
   }
@@ -94,6 +89,6 @@ module _ (xs ys zs : List Row) (n : ℕ) (new : Node) (low : n < length xs) (put
     long = long;
     here = linked.nodes n ∙ put.here low;
     others = nodes_before;
-    places = λ k. linked.places k ∙ ⊎_elim (λ same. ap (λ j. (at ys j).place) same ∙ put.place ∙ ap (λ j. (at xs j).place) (sym same)) (λ apart. ap (λ r. r.place) (put.others k apart)) (cases_eq k n);
+    places = λ k. linked.places k ∙ put_places xs ys n new put k;
     indexed = indexed_more;
   }

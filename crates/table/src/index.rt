@@ -3,7 +3,7 @@ ghost use Rattle.std.specs.Prelude.{◌≡◌, ℕ, ◌+◌, ◌<◌, ◌↔◌,
 ghost use Rattle.table.specs.Index.{chain_of, Indexed, Found, Put, Linked, Added};
 ghost use Rattle.table.specs.Rows.{blank_row, at};
 
-use crate::row::{Link, Node, Row};
+use crate::row::{Node, Row};
 
 // The chain of a state in a table of that many rows.
 fn chain_of(state: u64, size: usize) -> usize

@@ -1,10 +1,7 @@
 use Rattle.std.proofs.Common.{◌≡◌, ◌+◌, ◌-◌, ◌<◌, length, refl, subst, arith, rules}
 use Rattle.table.specs.Rows.{node}
-use Rattle.search.proofs.Writing.{WrittenFrom, writing_begins, writing_on, writing_ends}
+use Rattle.search.proofs.Writing.{WrittenFrom, writing_on, writing_ends}
 use Rattle.search.proofs.plan.write_plan.Goals as goal
-
-pub loop-k-init : goal.loop-k-init
-loop-k-init c = (refl, λ m n solved low. writing_begins m (node c.args.rows.now) n c.args.row c.args.plan.now (node c.args.rows.now c.args.row).steps low refl)
 
 pub bounds-rows-at : goal.bounds-rows-at
 bounds-rows-at c =
