@@ -31,9 +31,6 @@ module _ (m : Meaning) (f g : ℕ → Node) (n w n' w' : ℕ) (grew : Grew f n w
   pub closed_over : (actions : ℕ) (v : Node) → Closed m f n actions v → Closed m g n' actions v
   closed_over actions v closed a h r = known_over _ _ (closed a h r)
 
-pub grew_same : (f : ℕ → Node) (n w : ℕ) → Grew f n w f n w
-grew_same f n w = record { more = omega arith; same_settled = refl; settled = λ i h e. refl; states = λ i h. refl; costs = λ i h. omega arith; none_settled = λ i h e. (h, e) }
-
 pub grew_chain : (f g h : ℕ → Node) (n w n' w' n'' w'' : ℕ) → Grew f n w g n' w' → Grew g n' w' h n'' w'' → Grew f n w h n'' w''
 grew_chain f g h n w n' w' n'' w'' a b = record {
   more = omega (arith, a.more, b.more);

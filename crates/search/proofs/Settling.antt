@@ -90,10 +90,6 @@ module _ (m : Meaning) (limits : Limits m) (before : List Row) (n w i : ℕ) (lo
     own_cost : (node before i).cost ≤ 60000 * (node before i).steps
     own_cost = subst (λ v. v.cost ≤ 60000 * v.steps) still (so.searching.sound.cheap i row_low)
 
-    -- few rows, so that costs and steps are small
-    pub steps_small : (node before i).steps < 4096
-    steps_small = omega (arith, own_steps, so.searching.indexed.fits, so.searching.small)
-
     -- an action that leads elsewhere can run
     runs_if : (m.next (node before i).state a ≡ (node before i).state → ⊥) → m.runs (node before i).state a ≡ true
     runs_if away = ⊎_elim (λ e. e) (λ e. absurd (away (limits.next_same (node before i).state a e))) (cases_Bool (m.runs (node before i).state a))

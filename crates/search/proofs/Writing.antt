@@ -1,5 +1,5 @@
 -- A plan is written from its last action back: what stands in the place leads from the row that was come to on to the last one.
-use Rattle.std.proofs.Common.{◌≡◌, ℕ, zero, suc, ◌+◌, ◌<◌, ◌≤◌, List, [], ◌∷◌, ◌++◌, length, take, drop, set, sym, refl, ap, ◌∙◌, subst, ⊎_elim, arith}
+use Rattle.std.proofs.Common.{◌≡◌, ℕ, zero, suc, ◌+◌, ◌<◌, ◌≤◌, List, ◌∷◌, ◌++◌, length, take, drop, set, sym, refl, ap, ◌∙◌, subst, ⊎_elim, arith}
 use Rattle.std.proofs.lemmas.List.{length-set, drop-set, take_at, drop_at}
 use Rattle.domain.specs.Meaning.{Meaning}
 use Rattle.plans.specs.Plans.{after, RunsAll, cost_of}
@@ -22,21 +22,6 @@ module _ (m : Meaning) (nodes : ℕ → Node) (n last : ℕ) where
     pub cost : (nodes i).cost + cost_of m tail ≡ (nodes last).cost
     -- each state on the way is that of a row with as many steps
     pub passes : (j : ℕ) → j ≤ length tail → (r : ℕ) × ((r < n) × (((nodes r).steps ≡ k + j) × (after m (nodes i).state (take j tail) ≡ (nodes r).state)))
-
-  -- nothing is written yet
-  pub writing_begins : (before : List ℕ) (len : ℕ) → last < n → len ≡ (nodes last).steps → WrittenFrom before before len last len
-  writing_begins before len low e = record {
-    row = low;
-    steps = sym e;
-    long = refl;
-    tail = [];
-    size = omega arith;
-    stands = refl;
-    runs = tt;
-    leads = refl;
-    cost = omega arith;
-    passes = λ j h. let none : j ≡ 0 = omega arith in (last, (low, (omega arith, ap (λ k. after m (nodes last).state (take k [])) none)));
-  }
 
   module _ (solved : Solved m nodes n) where
     -- a row that has steps follows another
