@@ -2,5 +2,6 @@
 pub mod Compiled
 pub mod Faults
 pub mod Questions
+pub mod Accepting
 pub mod Outcome
 pub mod Law

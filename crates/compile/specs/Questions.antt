@@ -2,9 +2,7 @@
 use Rattle.std.specs.Prelude.{ℕ, ◌+◌, ◌<◌, ◌≤◌, cond, List, length, Ok, Err, Result, nat_le, slice_index}
 use Rattle.domain.specs.declared.fault.LogFault.{LogFault}
 use Rattle.cards.specs.Contents.{Contents}
-use Rattle.logs.specs.Entries.{entries}
 use Rattle.logs.specs.Reading.{read_log}
-use Rattle.logs.specs.declared.log.ObservationLog.{ObservationLog}
 use Rattle.compile.specs.declared.fault.CompileFault.{CompileFault}
 use Rattle.compile.specs.declared.fault.CompileFault.TheVariants.{Log, Fluents, Actions, Goals}
 
@@ -32,8 +30,3 @@ pub record Fits (c : Contents) (log : List ℕ) : Type 0 where
   pub fluents_high : c.fluents + length log ≤ 55
   pub actions_high : length c.actions + length log ≤ 120
   pub goals_high : length c.goals + length c.goals ≤ 32
-
--- what a call that asks the questions hands back
-abbrev pub log_outcome : Result ObservationLog CompileFault → Result (List ℕ) CompileFault
-log_outcome (Ok log) = Ok (entries log)
-log_outcome (Err fault) = Err fault

@@ -1,73 +1,62 @@
 // A log compiled into a card.
-ghost use Rattle.std.specs.Prelude.{◌≡◌, ◌≤◌, IfOk, IfErr, vec_len, vec_capacity};
+ghost use Rattle.std.specs.Prelude.{◌≡◌, ℕ, ◌+◌, ◌<◌, ◌≤◌, ◌++◌, map, IfOk, IfErr, vec_len, vec_capacity};
+ghost use Rattle.std.specs.List.{range_with_len};
 ghost use Rattle.files.specs.Outcome.{SameRoom};
 ghost use Rattle.cards.specs.Contents.{contents};
 ghost use Rattle.logs.specs.Entries.{entries};
 ghost use Rattle.compile.specs.Compiled.{compiled};
 ghost use Rattle.compile.specs.Law.{StandsByCosts, CompileLaw};
 ghost use Rattle.compile.specs.Outcome.{compile_log, outcome};
-ghost use Rattle.compile.specs.Questions.{Fits};
 
-use crate::parts::{action_of, goal_of};
-use crate::questions::accepted_log;
+use crate::accepted::Accepted;
 use crate::uncompiled::Uncompiled;
 use cards::action::Action;
 use cards::card::Card;
 use domain::Domain;
 use domain::room::Room;
 use fluents::FluentSet;
-use logs::log::ObservationLog;
 
-// The actions of the compiled card go into the place for them.
-fn push_actions(card: &Card, log: &ObservationLog, actions: &mut Vec<Action>)
-    requires fits { Fits (contents card.now) (entries log.now) }
-    requires empty { vec_len actions.old ≡ 0 }
-    requires wide { 120 ≤ vec_capacity actions.old }
-    ensures { actions.new.items ≡ (compiled (contents card.now) (entries log.now)).actions }
+// The parts of the numbers below the count, in their order, go behind what the place holds.
+fn push_each<T, F: Fn(u8) -> T>(place: &mut Vec<T>, count: u8, part: F)
+    requires wide { vec_len place.old + count ≤ vec_capacity place.old }
+    requires callable { (number : ℕ) → number < count → F.pre part number }
+    ensures items { (of : ℕ → T) → ((number : ℕ) (x : T) → number < count → F.post part number x → x ≡ of number) → place.new.items ≡ place.old.items ++ map of (range_with_len 0 count) }
+    ensures len { vec_len place.new ≡ vec_len place.old + count }
+    ensures capacity { vec_capacity place.new ≡ vec_capacity place.old }
 {
-    let count = card.action_count() + log.len() as u8;
     for number in 0..count {
-        actions.push_reserved(action_of(card, log, number));
+        place.push_reserved(part(number));
     }
 }
 
-// And its goals.
-fn push_goals(card: &Card, log: &ObservationLog, goals: &mut Vec<FluentSet>)
-    requires fits { Fits (contents card.now) (entries log.now) }
-    requires empty { vec_len goals.old ≡ 0 }
-    requires wide { 32 ≤ vec_capacity goals.old }
-    ensures { goals.new.items ≡ (compiled (contents card.now) (entries log.now)).goals }
-{
-    let count = card.goal_count() + card.goal_count();
-    for number in 0..count {
-        goals.push_reserved(goal_of(card, log, number));
+impl Accepted<'_> {
+    // The actions and the goals of the compiled card, in the room for them.
+    fn parts(&self, room: Room<Action, FluentSet>) -> (Vec<Action>, Vec<FluentSet>)
+        ensures actions { result.0.items ≡ (compiled (contents self.now.card.now) (entries self.now.log)).actions }
+        ensures goals { result.1.items ≡ (compiled (contents self.now.card.now) (entries self.now.log)).goals }
+    {
+        let Room {
+            mut actions,
+            mut goals,
+        } = room;
+        let action_count = self.card.action_count();
+        let entry_count = self.log.len() as u8;
+        let goal_count = self.card.goal_count();
+        push_each(&mut actions, action_count, |number| self.own_action(number));
+        push_each(&mut actions, entry_count, |place| self.copy(place));
+        push_each(&mut goals, goal_count, |number| self.own_goal(number));
+        push_each(&mut goals, goal_count, |number| self.with_log(number));
+        (actions, goals)
     }
-}
 
-// The compiled card, of a card and a log of which all questions are answered yes.
-fn compiled_card(card: &Card, log: &ObservationLog, room: Room<Action, FluentSet>) -> Card
-    requires { Fits (contents card.now) (entries log.now) }
-    ensures { contents result ≡ compiled (contents card.now) (entries log.now) }
-{
-    let Room {
-        mut actions,
-        mut goals,
-    } = room;
-    push_actions(card, log, &mut actions);
-    push_goals(card, log, &mut goals);
-    let fluents = card.width() + log.len() as u8;
-    let start = FluentSet::from_bits(card.start());
-    Card::new(fluents, start, actions, goals).unwrap()
-}
-
-// The card that the log is compiled into, or the room again.
-fn compile_in(card: &Card, log: &[u8], room: Room<Action, FluentSet>) -> Result<Card, Uncompiled>
-    ensures value { outcome result ≡ compile_log (contents card.now) log.now }
-    ensures room { IfErr result (λ u. SameRoom room u.room) }
-{
-    match accepted_log(card, log) {
-        Ok(log) => Ok(compiled_card(card, &log, room)),
-        Err(fault) => Err(Uncompiled { fault, room }),
+    // The compiled card, in the room for it.
+    fn card(&self, room: Room<Action, FluentSet>) -> Card
+        ensures { contents result ≡ compiled (contents self.now.card.now) (entries self.now.log) }
+    {
+        let (actions, goals) = self.parts(room);
+        let fluents = self.card.width() + self.log.len() as u8;
+        let start = FluentSet::from_bits(self.card.start());
+        Card::new(fluents, start, actions, goals).unwrap()
     }
 }
 
@@ -83,5 +72,8 @@ pub(crate) fn compile(
     ensures stands { IfOk result (λ new. StandsByCosts (contents card.now) log.now (contents new)) }
     ensures law { CompileLaw }
 {
-    compile_in(card, log, room)
+    match Accepted::new(card, log) {
+        Ok(accepted) => Ok(accepted.card(room)),
+        Err(fault) => Err(Uncompiled { fault, room }),
+    }
 }

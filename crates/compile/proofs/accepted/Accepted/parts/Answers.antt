@@ -1,0 +1,21 @@
+use Rattle.std.proofs.Common.{rules, arith}
+use Rattle.cards.specs.Cards.{goal_at}
+use Rattle.cards.specs.Contents.{contents}
+use Rattle.logs.specs.Entries.{entries}
+use Rattle.compile.specs.Compiled.{own_action, copy, with_log}
+use Rattle.compile.proofs.Values.{actions_are, goals_are}
+use Rattle.compile.proofs.accepted.Accepted.parts.Goals as goal
+
+pub returns : goal.returns
+returns c =
+    let card = contents c.args.self.now.card.now in
+    let log = entries c.args.self.now.log in
+    let room = c.args.room in
+    let own = c.push_each.ensures.items (own_action card log) (λ number x l p. search rules) in
+    let copies = c.push_each-2.ensures.items (copy card log) (λ number x l p. search rules) in
+    let own_goals = c.push_each-3.ensures.items (goal_at card) (λ number x l p. search rules) in
+    let goals_with_log = c.push_each-4.ensures.items (λ g. with_log card log (goal_at card g)) (λ number x l p. search rules) in
+    record {
+      actions = actions_are card log _ _ _ _ _ (omega (arith, room.actions.ok.0, room.empty.0)) c.action_count-action_count.ensures c.len-entry_count.ensures own copies;
+      goals = goals_are card log _ _ _ _ (omega (arith, room.goals.ok.0, room.empty.1)) c.goal_count-goal_count.ensures own_goals goals_with_log;
+    }
