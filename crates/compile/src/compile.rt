@@ -55,7 +55,7 @@ impl Accepted<'_> {
     {
         let (actions, goals) = self.parts(room);
         let fluents = self.card.width() + self.log.len() as u8;
-        let start = FluentSet::from_bits(self.card.start());
+        let start = FluentSet::from(self.card.start());
         Card::new(fluents, start, actions, goals).unwrap()
     }
 }

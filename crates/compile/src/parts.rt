@@ -16,14 +16,14 @@ impl Accepted<'_> {
         requires { place < length (entries self.now.log) }
         ensures { result ≡ mark (contents self.now.card.now) place }
     {
-        FluentSet::from_bits(1u64 << (self.card.width() + place))
+        FluentSet::from(1u64 << (self.card.width() + place))
     }
 
     // The marks of all entries.
     fn marks(&self) -> FluentSet
         ensures { result ≡ marks (contents self.now.card.now) (length (entries self.now.log)) }
     {
-        let mut set = FluentSet::from_bits(0);
+        let mut set = FluentSet::default();
         for place in 0..self.log.len() as u8 {
             set = set.with(self.mark(place));
         }
@@ -36,7 +36,7 @@ impl Accepted<'_> {
         ensures { result ≡ mark_before (contents self.now.card.now) place }
     {
         if place == 0 {
-            FluentSet::from_bits(0)
+            FluentSet::default()
         } else {
             self.mark(place - 1)
         }
@@ -49,7 +49,7 @@ impl Accepted<'_> {
         if self.log.may_run(number, marked) {
             set
         } else {
-            FluentSet::from_bits(0)
+            FluentSet::default()
         }
     }
 

@@ -11,7 +11,7 @@ unwrap-requires c =
     let it = c.args.self.now in
     let card = contents it.card.now in
     let log = entries it.log in
-    let same = card_is card log (c.width.result + c.len.result) c.from_bits-start.result _ _ (omega arith) (c.from_bits-start.ensures ∙ c.start.ensures.own) c.parts-actions.ensures.actions c.parts-actions.ensures.goals in
+    let same = card_is card log (c.width.result + c.len.result) c.from-start.result _ _ (omega arith) (c.from-start.ensures ∙ c.start.ensures.own) c.parts-actions.ensures.actions c.parts-actions.ensures.goals in
     made_there card log _ c.new.result same (compiled_limits card log (in_limits it.card.now) it.fits) c.new.ensures
 
 pub returns : goal.returns
@@ -19,5 +19,5 @@ returns c =
     let it = c.args.self.now in
     let card = contents it.card.now in
     let log = entries it.log in
-    let same = card_is card log (c.width.result + c.len.result) c.from_bits-start.result _ _ (omega arith) (c.from_bits-start.ensures ∙ c.start.ensures.own) c.parts-actions.ensures.actions c.parts-actions.ensures.goals in
+    let same = card_is card log (c.width.result + c.len.result) c.from-start.result _ _ (omega arith) (c.from-start.ensures ∙ c.start.ensures.own) c.parts-actions.ensures.actions c.parts-actions.ensures.goals in
     made_is card log _ c.new.result c.unwrap.result same c.new.ensures c.unwrap.ensures
