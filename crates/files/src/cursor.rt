@@ -1,5 +1,5 @@
 // Reading one record, from a place in a file.
-ghost use Rattle.std.specs.Prelude.{◌≡◌, ◌+◌, ◌≤◌, true, length};
+ghost use Rattle.std.specs.Prelude.{◌≡◌, ◌+◌, ◌≤◌, IsTrue, length};
 ghost use Rattle.files.specs.Formats.{bytes_of, fields_of};
 ghost use Rattle.files.specs.Reading.{size_of, part_with};
 ghost use Rattle.files.specs.Cursors.{field_at, fields_at, record_at, first_values};
@@ -21,7 +21,7 @@ pub(crate) struct Cursor<'a> {
 impl Cursor<'_> {
     // The value of a field that its bit tells to be present or not, and the byte after it.
     fn field(self, field: Field, present: bool) -> Result<(u64, usize), ReadFault>
-        requires { present ≡ true → self.at.byte + bytes_of field ≤ length self.bytes.now }
+        requires { IsTrue present → self.at.byte + bytes_of field ≤ length self.bytes.now }
         ensures { result ≡ field_at self.entry field present }
     {
         let from = self.at.byte;
@@ -36,7 +36,7 @@ impl Cursor<'_> {
         Ok((value, next))
     }
 
-    // The values of the fields, absent ones too, the bits of the bit map that are left, and the byte after the fields.
+    // The values of the fields, absent ones too, of which no record has more than four, the bits of the bit map that are left, and the byte after the fields.
     fn fields(self, layout: Layout, map: u8) -> Result<([u64; 4], u8, usize), ReadFault>
         requires { self.at.byte + size_of map (fields_of layout.kind layout.part) ≤ length self.bytes.now }
         ensures { fields_at self.entry layout map ≡ first_values layout result }

@@ -10,7 +10,7 @@ use crate::numbers::{read_number, write_number};
 use domain::fault::{Position, ReadFault};
 
 // What stands before the records.
-#[derive(Clone, Copy, PartialEq, Eq, Debug)]
+#[derive(Clone, Copy)]
 pub struct Header {
     pub(crate) size: u8,
     pub(crate) actions: u8,

@@ -10,7 +10,7 @@ use crate::kind::{Kind, Part};
 use crate::record::Record;
 
 // The kind of file that a record stands in, and what it describes.
-#[derive(Clone, Copy, PartialEq, Eq, Debug)]
+#[derive(Clone, Copy)]
 pub(crate) struct Layout {
     pub(crate) kind: Kind,
     pub(crate) part: Part,

@@ -40,7 +40,7 @@ fn read_parts<R: Record>(
 }
 
 // The actions and the goals go into the places for them. The answer is the header.
-// The places and not the room: a room is empty by its type, also behind a reference.
+// The two places and not a `&mut Room`: by its type a room is empty, and would have to be so again at the end.
 fn read_into<S: Record, G: Record>(
     kind: Kind,
     bytes: &[u8],

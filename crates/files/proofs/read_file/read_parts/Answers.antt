@@ -31,4 +31,3 @@ loop-preserved g c =
           ∙ turn
           ∙ ap (λ xs. prefixed xs (parts_with make (read_records l.kind l.part s.size s.bytes.now (c.args.count - (c.loop.counter + 1)) (at.«record» + 1) item.byte))) (sym c.push_reserved.ensures.items);
     }
-

@@ -21,4 +21,3 @@ loop-item-preserved g c =
     let records = records_of c.args.layout g.R.Record.written in
     let b = items_next c.args.layout g.R.Record.written xs i c.item-item.result c.loop-item-test.true c.item-item.is (records xs) c.args.place.now c.loop-item.place c.loop-item.count c.loop-item.invariant in
     begun_more _ _ (records (drop (i + 1) xs)) _ _ _ b _ _ c.write_record-count.ensures
-

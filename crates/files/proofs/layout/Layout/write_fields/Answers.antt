@@ -18,4 +18,3 @@ loop-i-preserved g c =
     let i = c.loop-i.i in
     let b = fields_next fs vs i c.value.result (all_field_bytes fs vs) c.args.place.now c.loop-i.place c.loop-i.count c.loop-i-test.true c.value.ensures c.loop-i.invariant in
     begun_more _ _ (all_field_bytes (drop (i + 1) fs) (drop (i + 1) vs)) _ _ _ b _ _ c.write-count.ensures
-
