@@ -1,10 +1,12 @@
 -- What a card holds, apart from where it lies in memory.
-use Rattle.std.specs.Prelude.{◌≡◌, vec_items, Option, MatchOption}
+use Rattle.std.specs.Prelude.{◌≡◌, Option, MatchOption}
+use Rattle.files.specs.Outcome.{contents_of}
 use Rattle.cards.specs.declared.card.Card.{Card}
+use Rattle.cards.specs.Limits.{card_of}
 pub use Rattle.cards.specs.Limits.{Contents, InLimits}
 
 abbrev pub contents : Card → Contents
-contents c = record { fluents = c.fluents; start = c.start; actions = vec_items c.actions; goals = vec_items c.goals }
+contents c = card_of (contents_of c.parts.file)
 
 -- the card that is made of parts: it holds them, and there is one exactly where they are within the limits
 abbrev pub MadeOf : Contents → Option Card → Type 0

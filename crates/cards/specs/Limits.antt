@@ -1,6 +1,8 @@
 -- The parts of a card and their limits: its sets lie among its fluents, and a cost is at most 60000.
 use Rattle.std.specs.Prelude.{ℕ, ◌^◌, ◌<◌, ◌≤◌, List, length, All}
 use Rattle.cards.specs.declared.action.Action.{Action}
+use Rattle.files.specs.Contents.{File}
+use Rattle.fluents.specs.SetRecords.{set_of}
 use Rattle.fluents.specs.declared.FluentSet.{FluentSet}
 
 -- the set has no fluent but the first n
@@ -15,6 +17,13 @@ pub record Contents : Type 0 where
   pub start : FluentSet
   pub actions : List Action
   pub goals : List FluentSet
+
+-- the card that a file tells of, and the parts of a card as its file has them
+abbrev pub card_of : File Action FluentSet → Contents
+card_of f = record { fluents = f.size; start = set_of f.start; actions = f.actions; goals = f.goals }
+
+abbrev pub parts_of : Contents → File Action FluentSet
+parts_of c = record { size = c.fluents; start = c.start.0; actions = c.actions; goals = c.goals }
 
 -- the limits of every card
 pub record InLimits (c : Contents) : Type 0 where

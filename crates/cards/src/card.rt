@@ -1,14 +1,12 @@
 // A set-up card. It has no public fields, and its limits are part of its type.
-ghost use Rattle.cards.specs.Limits.{InLimits};
+ghost use Rattle.files.specs.Outcome.{contents_of};
+ghost use Rattle.cards.specs.Limits.{InLimits, card_of};
 
-use crate::action::Action;
-use fluents::FluentSet;
+use crate::format::CardFormat;
+use formats::parts::Parts;
 
 #[derive(Drop)]
 pub struct Card {
-    pub(crate) fluents: u8,
-    pub(crate) start: FluentSet,
-    pub(crate) actions: Vec<Action>,
-    pub(crate) goals: Vec<FluentSet>,
-    ghost in_limits: { InLimits (record { fluents = fluents; start = start; actions = actions.items; goals = goals.items }) },
+    pub(crate) parts: Parts<CardFormat>,
+    ghost in_limits: { InLimits (card_of (contents_of parts.file)) },
 }

@@ -12,9 +12,9 @@ use fluents::FluentSet;
 impl Card {
     // A number is a state when all its bits are fluents of the card.
     fn is_state(&self, state: u64) -> bool
-        ensures { IsTrue result ↔ (state < 2 ^ self.now.fluents) }
+        ensures { IsTrue result ↔ (state < 2 ^ (contents self.now).fluents) }
     {
-        state < 1u64 << self.fluents
+        state < 1u64 << self.parts.size()
     }
 }
 
@@ -24,29 +24,29 @@ impl Domain for Card {
     ghost limits = { λ d. Laws.limits (contents d) (in_limits d) };
 
     fn width(&self) -> u8 {
-        self.fluents
+        self.parts.size()
     }
 
     fn action_count(&self) -> u8 {
-        self.actions.len() as u8
+        self.parts.action_count()
     }
 
     fn goal_count(&self) -> u8 {
-        self.goals.len() as u8
+        self.parts.goal_count()
     }
 
     fn start(&self) -> u64
         ensures value { result ≡ (meaning_of (contents self.now)).start }
-        ensures own { result ≡ self.now.start.0 }
+        ensures own { result ≡ (contents self.now).start.0 }
     {
-        u64::from(self.start)
+        self.parts.start()
     }
 
     fn runs(&self, state: u64, action: u8) -> bool
         ensures value { result ≡ (meaning_of (contents self.now)).runs state action }
         ensures fluents { IsTrue result ↔ Runs (contents self.now) state action }
     {
-        self.actions.get(usize::from(action)).is_some_and(|a| self.is_state(state)
+        self.parts.action(action).is_some_and(|a| self.is_state(state)
             && a.needs.within(FluentSet::from(state)))
     }
 
@@ -56,7 +56,7 @@ impl Domain for Card {
         ensures stays { (Runs (contents self.now) state action → ⊥) → result ≡ state }
     {
         let s = FluentSet::from(state);
-        match self.actions.get(usize::from(action)) {
+        match self.parts.action(action) {
             Some(a) if self.is_state(state) && a.needs.within(s) => {
                 u64::from(s.without(a.deletes).with(a.adds))
             }
@@ -68,29 +68,27 @@ impl Domain for Card {
         ensures value { result ≡ (meaning_of (contents self.now)).cost action }
         ensures own { OwnCost (contents self.now) action result }
     {
-        self.actions.get(usize::from(action)).map_or(0, |a| a.cost)
+        self.parts.action(action).map_or(0, |a| a.cost)
     }
 
     fn marked(&self, action: u8) -> bool
         ensures value { result ≡ (meaning_of (contents self.now)).marked action }
         ensures own { OwnMark (contents self.now) action result }
     {
-        self.actions
-            .get(usize::from(action))
-            .is_some_and(|a| a.marked)
+        self.parts.action(action).is_some_and(|a| a.marked)
     }
 
     fn meets(&self, state: u64, goal: u8) -> bool
         ensures value { result ≡ (meaning_of (contents self.now)).meets state goal }
         ensures fluents { IsTrue result ↔ Meets (contents self.now) state goal }
     {
-        self.goals.get(usize::from(goal)).is_some_and(|set| self.is_state(state)
+        self.parts.goal(goal).is_some_and(|set| self.is_state(state)
             && set.within(FluentSet::from(state)))
     }
 
     fn complete(&self, state: u64) -> bool
         ensures value { result ≡ (meaning_of (contents self.now)).complete state }
-        ensures every { IsTrue result ↔ (state < 2 ^ self.now.fluents) }
+        ensures every { IsTrue result ↔ (state < 2 ^ (contents self.now).fluents) }
     {
         self.is_state(state)
     }

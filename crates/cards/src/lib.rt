@@ -2,8 +2,10 @@
 #![tactic(auto)]
 
 pub mod action;
+pub mod action_record;
 pub mod card;
 pub mod card_domain;
 pub mod card_file;
+pub mod format;
 pub mod new_card;
 pub mod parts;

@@ -4,7 +4,9 @@ ghost use Rattle.cards.specs.Contents.{InLimits, MadeOf};
 
 use crate::action::Action;
 use crate::card::Card;
+use files::file::File;
 use fluents::FluentSet;
+use formats::parts::Parts;
 
 // Whether the parts are within the limits of a card.
 fn in_limits(fluents: u8, start: FluentSet, actions: &[Action], goals: &[FluentSet]) -> bool
@@ -29,12 +31,14 @@ impl Card {
         ensures { MadeOf (record { fluents = fluents; start = start; actions = actions.items; goals = goals.items }) result }
     {
         if in_limits(fluents, start, actions.as_slice(), goals.as_slice()) {
-            Some(Card {
-                fluents,
-                start,
+            let file = File {
+                size: fluents,
+                start: u64::from(start),
                 actions,
                 goals,
-            })
+            };
+            let parts = Parts { file };
+            Some(Card { parts })
         } else {
             None
         }

@@ -12,13 +12,13 @@ impl Card {
     pub fn action(&self, action: u8) -> Option<Action>
         ensures { result ≡ slice_get (contents self.now).actions action }
     {
-        self.actions.get(usize::from(action)).copied()
+        self.parts.action(action).copied()
     }
 
     // The goal of that number, if the card has one.
     pub fn goal(&self, goal: u8) -> Option<FluentSet>
         ensures { result ≡ slice_get (contents self.now).goals goal }
     {
-        self.goals.get(usize::from(goal)).copied()
+        self.parts.goal(goal).copied()
     }
 }

@@ -1,7 +1,8 @@
 -- What a field map holds, apart from where it lies in memory.
-use Rattle.std.specs.Prelude.{vec_items}
+use Rattle.files.specs.Outcome.{contents_of}
 use Rattle.maps.specs.declared.field_map.FieldMap.{FieldMap}
+use Rattle.maps.specs.Limits.{map_of}
 pub use Rattle.maps.specs.Limits.{Contents, InLimits}
 
 abbrev pub contents : FieldMap → Contents
-contents m = record { places = m.places; start = m.start; moves = vec_items m.moves; goals = vec_items m.goals }
+contents m = map_of (contents_of m.parts.file)

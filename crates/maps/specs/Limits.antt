@@ -1,5 +1,6 @@
 -- The parts of a map and their limits: moves and goals lie among its places, and a cost is at most 60000.
 use Rattle.std.specs.Prelude.{ℕ, ◌<◌, ◌≤◌, List, length, All}
+use Rattle.files.specs.Contents.{File}
 use Rattle.maps.specs.declared.moves.Move.{Move}
 use Rattle.maps.specs.declared.place.Place.{Place}
 
@@ -16,6 +17,13 @@ pub record Contents : Type 0 where
   pub start : Place
   pub moves : List Move
   pub goals : List Place
+
+-- the map that a file tells of, and the parts of a map as its file has them
+abbrev pub map_of : File Move Place → Contents
+map_of f = record { places = f.size; start = record { 0 = f.start }; moves = f.actions; goals = f.goals }
+
+abbrev pub parts_of : Contents → File Move Place
+parts_of c = record { size = c.places; start = c.start.0; actions = c.moves; goals = c.goals }
 
 -- the limits of every map
 pub record InLimits (c : Contents) : Type 0 where

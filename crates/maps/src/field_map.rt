@@ -1,14 +1,12 @@
 // A field map. It has no public fields, and its limits are part of its type.
-ghost use Rattle.maps.specs.Limits.{InLimits};
+ghost use Rattle.files.specs.Outcome.{contents_of};
+ghost use Rattle.maps.specs.Limits.{InLimits, map_of};
 
-use crate::moves::Move;
-use crate::place::Place;
+use crate::format::MapFormat;
+use formats::parts::Parts;
 
 #[derive(Drop)]
 pub struct FieldMap {
-    pub(crate) places: u8,
-    pub(crate) start: Place,
-    pub(crate) moves: Vec<Move>,
-    pub(crate) goals: Vec<Place>,
-    ghost in_limits: { InLimits (record { places = places; start = start; moves = moves.items; goals = goals.items }) },
+    pub(crate) parts: Parts<MapFormat>,
+    ghost in_limits: { InLimits (map_of (contents_of parts.file)) },
 }

@@ -2,8 +2,10 @@
 #![tactic(auto)]
 
 pub mod field_map;
+pub mod format;
 pub mod map_domain;
 pub mod map_file;
 pub mod moves;
 pub mod parts;
 pub mod place;
+pub mod records;

@@ -19,27 +19,27 @@ impl Domain for FieldMap {
     }
 
     fn action_count(&self) -> u8 {
-        self.moves.len() as u8
+        self.parts.action_count()
     }
 
     fn goal_count(&self) -> u8 {
-        self.goals.len() as u8
+        self.parts.goal_count()
     }
 
     fn start(&self) -> u64
         ensures value { result ≡ (meaning_of (contents self.now)).start }
-        ensures own { result ≡ self.now.start.0 }
+        ensures own { result ≡ (contents self.now).start.0 }
     {
-        u64::from(self.start)
+        self.parts.start()
     }
 
     fn runs(&self, state: u64, action: u8) -> bool
         ensures value { result ≡ (meaning_of (contents self.now)).runs state action }
         ensures leaves { IsTrue result ↔ Runs (contents self.now) state action }
-        ensures elsewhere { self.now.places ≤ state → result ≡ false }
+        ensures elsewhere { (contents self.now).places ≤ state → result ≡ false }
     {
-        self.moves
-            .get(usize::from(action))
+        self.parts
+            .action(action)
             .is_some_and(|m| state == u64::from(m.from))
     }
 
@@ -48,7 +48,7 @@ impl Domain for FieldMap {
         ensures reaches { Runs (contents self.now) state action → result ≡ (move_at (contents self.now) action).to.0 }
         ensures stays { (Runs (contents self.now) state action → ⊥) → result ≡ state }
     {
-        match self.moves.get(usize::from(action)) {
+        match self.parts.action(action) {
             Some(m) if state == u64::from(m.from) => u64::from(m.to),
             _ => state,
         }
@@ -58,25 +58,23 @@ impl Domain for FieldMap {
         ensures value { result ≡ (meaning_of (contents self.now)).cost action }
         ensures own { OwnCost (contents self.now) action result }
     {
-        self.moves.get(usize::from(action)).map_or(0, |m| m.cost)
+        self.parts.action(action).map_or(0, |m| m.cost)
     }
 
     fn marked(&self, action: u8) -> bool
         ensures value { result ≡ (meaning_of (contents self.now)).marked action }
         ensures own { OwnMark (contents self.now) action result }
     {
-        self.moves
-            .get(usize::from(action))
-            .is_some_and(|m| m.marked)
+        self.parts.action(action).is_some_and(|m| m.marked)
     }
 
     fn meets(&self, state: u64, goal: u8) -> bool
         ensures value { result ≡ (meaning_of (contents self.now)).meets state goal }
         ensures there { IsTrue result ↔ Meets (contents self.now) state goal }
-        ensures elsewhere { self.now.places ≤ state → result ≡ false }
+        ensures elsewhere { (contents self.now).places ≤ state → result ≡ false }
     {
-        self.goals
-            .get(usize::from(goal))
+        self.parts
+            .goal(goal)
             .is_some_and(|place| state == u64::from(*place))
     }
 

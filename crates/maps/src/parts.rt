@@ -12,20 +12,20 @@ impl FieldMap {
     pub fn places(&self) -> u8
         ensures { result ≡ (contents self.now).places }
     {
-        self.places
+        self.parts.size()
     }
 
     // The move of that number, if the map has one.
     pub fn move_at(&self, action: u8) -> Option<Move>
         ensures { result ≡ slice_get (contents self.now).moves action }
     {
-        self.moves.get(usize::from(action)).copied()
+        self.parts.action(action).copied()
     }
 
     // The place of the goal of that number, if the map has one.
     pub fn goal(&self, goal: u8) -> Option<Place>
         ensures { result ≡ slice_get (contents self.now).goals goal }
     {
-        self.goals.get(usize::from(goal)).copied()
+        self.parts.goal(goal).copied()
     }
 }

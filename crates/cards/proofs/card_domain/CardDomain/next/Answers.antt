@@ -8,7 +8,7 @@ pub returns-in-Some-clause-value : goal.returns-in-Some-clause-value
 returns-in-Some-clause-value c =
     let card = contents c.args.self.now in
     let runs : Runs card c.args.state c.args.action = search rules in
-    let after : After card c.args.state c.args.action c.from-in-Some.result = after_from_steps card _ _ c.without.result.0 _ (search rules) (search rules) in
+    let after : After card c.args.state c.args.action c.from.result = after_from_steps card _ _ c.without.result.0 _ (search rules) (search rules) in
     next_from_laws card _ _ _ (λ _. after) (λ no. absurd (no runs))
 
 pub returns-in_default-clause-value : goal.returns-in_default-clause-value

@@ -1,0 +1,3 @@
+-- to be read in this order
+pub mod Conversions
+pub mod Files
