@@ -1,7 +1,8 @@
 -- A list of actions carries a log, by a strictly rising choice of places, exactly when the count of carried entries comes to the log's length.
 use Rattle.std.proofs.Common.{◌≡◌, ℕ, zero, suc, ◌+◌, ◌-◌, ◌<◌, ◌≤◌, List, [], ◌∷◌, length, get_or, drop, sym, refl, ap, ◌∙◌, subst, ⊎_elim, arith}
 use Rattle.std.proofs.lemmas.List.{drop_all, drop_more, length-drop}
-use Rattle.std.proofs.lemmas.Bool.{cases_lt, cases_eq, and_from, and_left, and_right, lt-ltb, le-ltb, eq-eqb, ne_eqb, cond-true, cond-false}
+use Rattle.std.proofs.lemmas.Bool.Decides.{nat_tests}
+use Rattle.std.proofs.lemmas.Bool.{cases_lt, cases_eq}
 use Rattle.plans.specs.Logs.{Carries}
 use Rattle.plans.specs.Counting.{advance, advance_all}
 
@@ -74,19 +75,16 @@ unskip x a log plan other c =
 -- how the count grows
 module _ (log : List ℕ) (k a : ℕ) where
   grows : k < length log → get_or log k 0 ≡ a → advance log k a ≡ k + 1
-  grows h e = cond-true _ (k + 1) k (and_from _ _ (lt-ltb k (length log) h) (eq-eqb (get_or log k 0) a e))
+  grows h e = grind (arith, nat_tests)
 
   stays : k < length log → (get_or log k 0 ≡ a → ⊥) → advance log k a ≡ k
-  stays h e = cond-false _ (k + 1) k (and_right _ _ (ne_eqb (get_or log k 0) a e))
+  stays h e = grind (arith, nat_tests)
 
   ended : length log ≤ k → advance log k a ≡ k
-  ended h = cond-false _ (k + 1) k (and_left _ _ (le-ltb k (length log) h))
+  ended h = grind (arith, nat_tests)
 
   pub advance_low : k ≤ length log → advance log k a ≤ length log
-  advance_low h = ⊎_elim
-      (λ l. ⊎_elim (λ e. omega (arith, grows l e)) (λ e. omega (arith, stays l e)) (cases_eq (get_or log k 0) a))
-      (λ l. omega (arith, ended l))
-      (cases_lt k (length log))
+  advance_low h = grind (arith, nat_tests)
 
 -- a count that comes to the end tells the places
 pub counted_carries : (log plan : List ℕ) (k : ℕ) → k ≤ length log → advance_all log k plan ≡ length log → Carries (drop k log) plan

@@ -1,4 +1,4 @@
--- The laws on watched domains and on stacks, told of plans that end in a complete state as one kind.
+-- The laws on watched domains and on stacks, for one goal.
 use Rattle.std.proofs.Common.{ℕ, List}
 use Rattle.domain.specs.Meaning.{Meaning}
 use Rattle.plans.specs.Laws.{Watchable}
@@ -11,14 +11,14 @@ use Rattle.plans.proofs.Watching.{whole_laws}
 
 module _ (d : Meaning) (log : List ℕ) (ok : Watchable d log) (g : ℕ) where
   pub whole_of_complete : (plan : List ℕ) → CompletePlan (watched d log) g plan → Whole d log g plan
-  whole_of_complete plan p = (whole_laws d log ok).complete_whole g plan p.plan_for p.complete
+  whole_of_complete = (whole_laws d log ok).complete_whole g
 
   pub complete_of_whole : (plan : List ℕ) → Whole d log g plan → CompletePlan (watched d log) g plan
-  complete_of_whole plan w = let both = (whole_laws d log ok).whole_complete g plan w in record { plan_for = both.0; complete = both.1 }
+  complete_of_whole = (whole_laws d log ok).whole_complete g
 
 module _ (b : Meaning) (logs : List (List ℕ)) (ok : Stackable b logs) (g : ℕ) where
   pub below_of_complete : (plan : List ℕ) → CompletePlan (stack b logs) g plan → WholeBelow b logs g plan
-  below_of_complete plan p = (stack_laws b logs ok).complete_whole g plan p.plan_for p.complete
+  below_of_complete = (stack_laws b logs ok).complete_whole g
 
   pub complete_of_below : (plan : List ℕ) → WholeBelow b logs g plan → CompletePlan (stack b logs) g plan
-  complete_of_below plan w = let both = (stack_laws b logs ok).whole_complete g plan w in record { plan_for = both.0; complete = both.1 }
+  complete_of_below = (stack_laws b logs ok).whole_complete g

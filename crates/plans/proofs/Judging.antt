@@ -8,15 +8,9 @@ use Rattle.domain.specs.Meaning.{Meaning}
 use Rattle.plans.specs.Plans.{cost_of, LeastCost}
 use Rattle.plans.specs.Verdicts.{verdict_of, JudgesRightly}
 
-apart_no : {C : Type 0} → ◌≡◌ {A = Verdict} verdict.NoPlan verdict.Stands → C
-apart_no e = let z : ◌≡◌ {A = ℕ} 0 1 = cc in absurd (omega arith)
-
-apart_cut : {C : Type 0} → ◌≡◌ {A = Verdict} verdict.CutOff verdict.Stands → C
-apart_cut e = let z : ◌≡◌ {A = ℕ} 0 1 = cc in absurd (omega arith)
-
 equal_if : (b : Bool) → ◌≡◌ {A = Verdict} (cond b verdict.Stands verdict.CostsMore) verdict.Stands → b ≡ true
 equal_if true e = refl
-equal_if false e = let z : ◌≡◌ {A = ℕ} 0 1 = cc in absurd (omega arith)
+equal_if false e = cc
 
 module _ (d : Meaning) (log : List ℕ) (g : ℕ) where
   -- equal least costs: a cheapest whole plan is a cheapest admitted one
@@ -45,11 +39,11 @@ module _ (d : Meaning) (log : List ℕ) (g : ℕ) where
 
 pub judges_rightly : (first second : Option ℕ) → JudgesRightly first second (verdict_of first second)
 judges_rightly None second = record {
-  says_so = λ d log g one two e. apart_no e;
+  says_so = λ d log g one two e. absurd cc;
   is_so = λ d log g one two s. absurd (one s.0 s.1.0.of_kind);
 }
 judges_rightly (Some c) None = record {
-  says_so = λ d log g one two e. apart_cut e;
+  says_so = λ d log g one two e. absurd cc;
   is_so = λ d log g one two s. absurd (two s.0 s.1.1);
 }
 judges_rightly (Some c) (Some e) = record {

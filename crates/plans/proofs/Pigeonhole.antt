@@ -1,13 +1,13 @@
 -- Different states that all stand in a list are no more than the list is long; so at most n states and more than n exclude each other.
 use Rattle.std.proofs.Common.{◌≡◌, ℕ, suc, ◌+◌, ◌-◌, ◌<◌, ◌≤◌, List, [], ◌∷◌, length, get_or, sym, ◌∙◌, ⊎_elim, arith}
-use Rattle.std.specs.List.{ContainsAt as Has, remove}
+use Rattle.std.specs.List.{ContainsAt, remove}
 use Rattle.std.proofs.lemmas.List.Edits.{length-remove, get_or-remove_below, get_or-remove_above}
 use Rattle.std.proofs.lemmas.Bool.{cases_lt, cases_eq}
 use Rattle.domain.specs.Meaning.{Meaning}
 use Rattle.plans.specs.Reachable.{NeverBoth}
 
 -- another number stays in the list where one is removed
-stays : (ys : List ℕ) (k x z : ℕ) → k < length ys → get_or ys k 0 ≡ x → (x ≡ z → ⊥) → Has ys z → Has (remove ys k) z
+stays : (ys : List ℕ) (k x z : ℕ) → k < length ys → get_or ys k 0 ≡ x → (x ≡ z → ⊥) → ContainsAt ys z → ContainsAt (remove ys k) z
 stays ys k x z low here other h =
     let j = h.0 in
     let size = length-remove ys k low in
@@ -21,7 +21,7 @@ stays ys k x z low here other h =
     (cases_eq k j))
     (cases_lt j k)
 
-fits : (xs ys : List ℕ) → ((i : ℕ) → i < length xs → Has ys (get_or xs i 0)) → ((i j : ℕ) → i < j → j < length xs → get_or xs i 0 ≡ get_or xs j 0 → ⊥) → length xs ≤ length ys
+fits : (xs ys : List ℕ) → ((i : ℕ) → i < length xs → ContainsAt ys (get_or xs i 0)) → ((i j : ℕ) → i < j → j < length xs → get_or xs i 0 ≡ get_or xs j 0 → ⊥) → length xs ≤ length ys
 fits [] ys all apart = omega arith
 fits (x ∷ xs) ys all apart =
     let first = all 0 (omega arith) in

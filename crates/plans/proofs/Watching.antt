@@ -2,14 +2,15 @@
 use Rattle.std.proofs.Common.{◌≡◌, ℕ, ◌+◌, ◌*◌, ◌/◌, ◌%◌, ◌^◌, ◌<◌, ◌≤◌, Bool, true, false, cond, ◌&&◌, eqb, ltb, leb, List, [], ◌∷◌, length, sym, refl, ap, ◌∙◌, subst, ⊎_elim, add-zero, mod-eq_of_lt, mul_comm, add_comm, mul-zero, arith}
 use native.Mathlib.Nat.{div-add-mod, pow-le-pow_right}
 use Rattle.std.proofs.lemmas.Nat.{pow-add, pow_pos, mul-le, mod_below, shr_high, mod_low}
-use Rattle.std.proofs.lemmas.Bool.{cases_Bool, and_parts, and_from, and_left, and_right, or_cases, or_left, or_right, not_from_true, not_from_false, leb-true, leb-false, le-leb, lt-leb, lt-ltb, le-ltb, ltb-true, eqb-true, eq-eqb, cond-true, cond-false, true≢false}
-use Rattle.plans.specs.Logs.{occurs, Carries, Admitted}
+use Rattle.std.proofs.lemmas.Bool.{cases_Bool, and_parts, and_from, and_left, and_right, or_cases, or_left, or_right, leb-true, leb-false, le-leb, lt-leb, lt-ltb, le-ltb, ltb-true, eqb-true, eq-eqb, cond-true, cond-false, true≢false}
+use Rattle.plans.specs.Logs.{occurs, Carries, Logged, Admitted}
 use Rattle.domain.specs.Meaning.{Meaning, Limits}
 use Rattle.plans.specs.Plans.{after, RunsAll, PlanFor}
 use Rattle.plans.specs.Counting.{may_run, advance, advance_all}
 use Rattle.plans.specs.Laws.{Watchable, last_state, PlanLaws, WholeLaws}
 use Rattle.plans.specs.Watched.{extra_bits, log_over, below, count, joined_state, is_state, watched_by, watched}
 use Rattle.plans.proofs.Carrying.{advance_low, counted_carries, carries_counted}
+use Rattle.plans.proofs.Marks.{may_logged, logged_may}
 
 module _ (d : Meaning) (log : List ℕ) (ok : Watchable d log) where
   -- the log is followed whole
@@ -80,29 +81,19 @@ module _ (d : Meaning) (log : List ℕ) (ok : Watchable d log) where
         ∙ ap (λ n. d.complete s && eqb n (length (log_over d log))) at_count
         ∙ ap (λ l. d.complete s && eqb k (length l)) over
 
-  -- every marked action of the list is in the log
-  abbrev Logged : List ℕ → Type 0
-  Logged plan = (a : ℕ) → occurs a plan ≡ true → d.marked a ≡ true → occurs a log ≡ true
-
-  may_from : (a : ℕ) → (d.marked a ≡ true → occurs a log ≡ true) → may_run log a (d.marked a) ≡ true
-  may_from a h = ⊎_elim (λ m. or_right _ _ (h m)) (λ m. or_left _ _ (not_from_false (d.marked a) m)) (cases_Bool (d.marked a))
-
-  may_logged : (a : ℕ) → may_run log a (d.marked a) ≡ true → d.marked a ≡ true → occurs a log ≡ true
-  may_logged a m marked = ⊎_elim (λ n. absurd (true≢false (sym n ∙ not_from_true (d.marked a) marked))) (λ o. o) (or_cases _ _ m)
-
   -- a list of actions, run in both
-  ran_below : (plan : List ℕ) (x s k : ℕ) → At x s k → RunsAll (watched d log) x plan → RunsAll d s plan × Logged plan × At (after (watched d log) x plan) (after d s plan) (advance_all log k plan)
+  ran_below : (plan : List ℕ) (x s k : ℕ) → At x s k → RunsAll (watched d log) x plan → RunsAll d s plan × Logged d log plan × At (after (watched d log) x plan) (after d s plan) (advance_all log k plan)
   ran_below [] x s k at r = (tt, (λ a o m. absurd (true≢false (sym o))), at)
   ran_below (b ∷ plan) x s k at r =
       let both = and_parts _ _ (sym (at_runs x s k at b) ∙ r.0) in
       let rest = ran_below plan ((watched d log).next x b) (d.next s b) (advance log k b) (at_next x s k at b r.0) r.1 in
-      let here : Logged (b ∷ plan) = λ a o m. ⊎_elim (λ e. subst (λ c. occurs c log ≡ true) (eqb-true b a e) (may_logged b both.1 (subst (λ c. d.marked c ≡ true) (sym (eqb-true b a e)) m))) (λ later. rest.1 a later m) (or_cases _ _ o) in
+      let here : Logged d log (b ∷ plan) = λ a o m. ⊎_elim (λ e. subst (λ c. occurs c log ≡ true) (eqb-true b a e) (may_logged log b (d.marked b) both.1 (subst (λ c. d.marked c ≡ true) (sym (eqb-true b a e)) m))) (λ later. rest.1 a later m) (or_cases _ _ o) in
       ((both.0, rest.0), here, rest.2)
 
-  runs_above : (plan : List ℕ) (x s k : ℕ) → At x s k → RunsAll d s plan → Logged plan → RunsAll (watched d log) x plan
+  runs_above : (plan : List ℕ) (x s k : ℕ) → At x s k → RunsAll d s plan → Logged d log plan → RunsAll (watched d log) x plan
   runs_above [] x s k at r l = tt
   runs_above (b ∷ plan) x s k at r l =
-      let here : (watched d log).runs x b ≡ true = at_runs x s k at b ∙ and_from _ _ r.0 (may_from b (l b (or_left _ _ (eq-eqb b b refl)))) in
+      let here : (watched d log).runs x b ≡ true = at_runs x s k at b ∙ and_from _ _ r.0 (logged_may log b (d.marked b) (l b (or_left _ _ (eq-eqb b b refl)))) in
       (here, runs_above plan ((watched d log).next x b) (d.next s b) (advance log k b) (at_next x s k at b here) r.1 (λ a o m. l a (or_right _ _ o) m))
 
   at_start : At (watched d log).start d.start 0
@@ -136,11 +127,11 @@ module _ (d : Meaning) (log : List ℕ) (ok : Watchable d log) where
 
   pub whole_laws : WholeLaws d log
   whole_laws = record {
-    complete_whole = λ g plan p e.
-        let admitted = plan_admitted g plan p in
-        let both = complete_carries g plan admitted e in
+    complete_whole = λ g plan p.
+        let admitted = plan_admitted g plan p.plan_for in
+        let both = complete_carries g plan admitted p.complete in
         record { admitted = admitted; carries = both.0; complete = both.1 };
-    whole_complete = λ g plan w. (admitted_plan g plan w.admitted, carries_complete g plan w.admitted w.carries w.complete);
+    whole_complete = λ g plan w. record { plan_for = admitted_plan g plan w.admitted; complete = carries_complete g plan w.admitted w.carries w.complete };
   }
 
 -- The limits of a watched domain. A state that an action runs in has its two parts.

@@ -2,7 +2,7 @@
 use Rattle.std.specs.Prelude.{◌≡◌, ℕ, ◌<◌, ◌≤◌, true, List, [], length}
 use Rattle.plans.specs.Logs.{Carries, Admitted, Whole}
 use Rattle.domain.specs.Meaning.{Meaning, Limits}
-use Rattle.plans.specs.Plans.{after, PlanFor}
+use Rattle.plans.specs.Plans.{after, PlanFor, CompletePlan}
 use Rattle.plans.specs.Watched.{watched}
 
 -- the domains and logs that the laws speak of: at most 20 entries, and none over a width above 55
@@ -25,5 +25,5 @@ pub record PlanLaws (d : Meaning) (log : List ℕ) : Type 0 where
 
 -- so the plans that end complete are exactly the whole plans
 pub record WholeLaws (d : Meaning) (log : List ℕ) : Type 0 where
-  pub complete_whole : (g : ℕ) (plan : List ℕ) → PlanFor (watched d log) g plan → (watched d log).complete (last_state d log plan) ≡ true → Whole d log g plan
-  pub whole_complete : (g : ℕ) (plan : List ℕ) → Whole d log g plan → PlanFor (watched d log) g plan × ((watched d log).complete (last_state d log plan) ≡ true)
+  pub complete_whole : (g : ℕ) (plan : List ℕ) → CompletePlan (watched d log) g plan → Whole d log g plan
+  pub whole_complete : (g : ℕ) (plan : List ℕ) → Whole d log g plan → CompletePlan (watched d log) g plan

@@ -22,7 +22,7 @@ Logged d log list = (a : ℕ) → occurs a list ≡ true → d.marked a ≡ true
 -- an admitted plan has no marked action that is not in the log, since the console would have logged it
 pub record Admitted (d : Meaning) (log : List ℕ) (g : ℕ) (plan : List ℕ) : Type 0 where
   pub plan_for : PlanFor d g plan
-  pub logged : (a : ℕ) → occurs a plan ≡ true → d.marked a ≡ true → occurs a log ≡ true
+  pub logged : Logged d log plan
 
 -- a whole plan is admitted, carries the log, and ends in a complete state
 pub record Whole (d : Meaning) (log : List ℕ) (g : ℕ) (plan : List ℕ) : Type 0 where

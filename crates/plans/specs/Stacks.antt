@@ -1,9 +1,9 @@
 -- Several logs on one domain: a watched domain over a watched domain, and so on.
 use Rattle.std.specs.Prelude.{◌≡◌, ℕ, true, List, [], ◌∷◌}
 use Rattle.std.specs.List.{AllByRecursion}
-use Rattle.plans.specs.Logs.{occurs, Carries}
+use Rattle.plans.specs.Logs.{Carries, Logged}
 use Rattle.domain.specs.Meaning.{Meaning, Limits}
-use Rattle.plans.specs.Plans.{after, PlanFor}
+use Rattle.plans.specs.Plans.{after, PlanFor, CompletePlan}
 use Rattle.plans.specs.Laws.{Watchable}
 use Rattle.plans.specs.Watched.{watched}
 
@@ -19,7 +19,7 @@ Stackable b (log ∷ logs) = Watchable (stack b logs) log × Stackable b logs
 -- the innermost log alone judges the marks of the domain at the bottom
 abbrev pub MarksLogged : Meaning → List (List ℕ) → List ℕ → Type 0
 MarksLogged b [] plan = Unit {0}
-MarksLogged b (log ∷ []) plan = (a : ℕ) → occurs a plan ≡ true → b.marked a ≡ true → occurs a log ≡ true
+MarksLogged b (log ∷ []) plan = Logged b log plan
 MarksLogged b (log ∷ (inner ∷ logs)) plan = MarksLogged b (inner ∷ logs) plan
 
 -- a list of actions that is whole for all the logs, in the words of the domain at the bottom
@@ -31,5 +31,5 @@ pub record WholeBelow (b : Meaning) (logs : List (List ℕ)) (g : ℕ) (plan : L
 
 -- a plan of the stack that ends complete is whole for all its logs, and the other way round
 pub record StackLaws (b : Meaning) (logs : List (List ℕ)) : Type 0 where
-  pub complete_whole : (g : ℕ) (plan : List ℕ) → PlanFor (stack b logs) g plan → (stack b logs).complete (after (stack b logs) (stack b logs).start plan) ≡ true → WholeBelow b logs g plan
-  pub whole_complete : (g : ℕ) (plan : List ℕ) → WholeBelow b logs g plan → PlanFor (stack b logs) g plan × ((stack b logs).complete (after (stack b logs) (stack b logs).start plan) ≡ true)
+  pub complete_whole : (g : ℕ) (plan : List ℕ) → CompletePlan (stack b logs) g plan → WholeBelow b logs g plan
+  pub whole_complete : (g : ℕ) (plan : List ℕ) → WholeBelow b logs g plan → CompletePlan (stack b logs) g plan

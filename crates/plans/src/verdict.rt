@@ -1,6 +1,8 @@
 // What the two least costs of a goal tell.
-ghost use Rattle.std.specs.Prelude.{◌≡◌};
-ghost use Rattle.plans.specs.Verdicts.{verdict_of, JudgesRightly};
+ghost use Rattle.std.specs.Prelude.{◌≡◌, Some};
+ghost use Rattle.plans.specs.Verdicts.{verdict_of, verdict_words, JudgesRightly};
+
+use std::fmt;
 
 #[derive(Clone, Copy, PartialEq, Eq, Debug)]
 pub enum Verdict {
@@ -20,22 +22,24 @@ impl Verdict {
         ensures value { result ≡ verdict_of costs.0 costs.1 }
         ensures right { JudgesRightly costs.0 costs.1 result }
     {
-        Verdict::on(costs)
-    }
-
-    fn on(costs: (Option<u32>, Option<u32>)) -> Verdict
-        ensures { result ≡ verdict_of costs.0 costs.1 }
-    {
         match costs {
             (None, _) => Verdict::NoPlan,
             (Some(_), None) => Verdict::CutOff,
-            (Some(without), Some(with)) => {
-                if without == with {
-                    Verdict::Stands
-                } else {
-                    Verdict::CostsMore
-                }
-            }
+            (Some(without), Some(with)) if without == with => Verdict::Stands,
+            (Some(_), Some(_)) => Verdict::CostsMore,
         }
+    }
+}
+
+impl fmt::Display for Verdict {
+    ghost output = { λ verdict. Some (verdict_words verdict) };
+
+    fn fmt<W: fmt::Write>(&self, f: &mut fmt::Formatter<W>) -> fmt::Result {
+        f.write_str(match self {
+            Verdict::Stands => "stands",
+            Verdict::CostsMore => "costs-more",
+            Verdict::CutOff => "cut-off",
+            Verdict::NoPlan => "no-plan",
+        })
     }
 }
