@@ -1,2 +1,1 @@
 pub mod Fronts
-mod Reading

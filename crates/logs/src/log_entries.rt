@@ -1,5 +1,5 @@
 // The log by its entries.
-ghost use Rattle.std.specs.Prelude.{◌≡◌, ◌-◌, [], ◌∷◌, ◌++◌, length, take, if◌then◌else◌, nat_lt};
+ghost use Rattle.std.specs.Prelude.{◌≡◌, ◌-◌, [], ◌∷◌, ◌++◌, length, take, is_ok, Ok, Err, if◌then◌else◌, nat_lt};
 ghost use Rattle.std.specs.List.{slice_get};
 ghost use Rattle.plans.specs.Logs.{occurs};
 ghost use Rattle.plans.specs.Counting.{may_run, advance};
@@ -17,7 +17,7 @@ impl ObservationLog {
         ensures { entries result ≡ [] }
     {
         ObservationLog {
-            table: [0; 20],
+            table: [0; Self::MOST],
             used: 0,
         }
     }
@@ -34,39 +34,36 @@ impl ObservationLog {
             if *action >= actions {
                 return Err(LogFault::Action);
             }
-            let _ = log.append(*action);
+            log.append(*action)?;
         }
         Ok(log)
+    }
+
+    // The entries, in their order.
+    pub fn as_slice(&self) -> &[u8]
+        ensures { result.now ≡ entries self.now }
+    {
+        &self.table[..self.used]
     }
 
     pub fn len(&self) -> usize
         ensures { result ≡ length (entries self.now) }
     {
-        let count = self.used;
-        count
+        self.as_slice().len()
     }
 
     // The entry at a place, counted from 0, if there is one.
     pub fn entry(&self, place: usize) -> Option<u8>
         ensures { result ≡ slice_get (entries self.now) place }
     {
-        if place < self.used {
-            Some(self.table[place])
-        } else {
-            None
-        }
+        self.as_slice().get(place).copied()
     }
 
     // Whether the action is one of the entries.
     pub fn occurs(&self, action: u8) -> bool
         ensures { result ≡ occurs action (entries self.now) }
     {
-        for i in 0..self.used {
-            if self.table[i] == action {
-                return true;
-            }
-        }
-        false
+        self.as_slice().contains(&action)
     }
 
     // Whether an action may run: one that is marked only if it is an entry.
@@ -76,17 +73,17 @@ impl ObservationLog {
         !marked || self.occurs(action)
     }
 
-    // One entry more, unless the log is full; the answer is whether there was a place for it.
-    pub fn append(&mut self, action: u8) -> bool
-        ensures value { result ≡ nat_lt (length (entries self.old)) 20 }
-        ensures entries { entries self.new ≡ (if result then entries self.old ++ (action ∷ []) else entries self.old) }
+    // One entry more, unless the log is full.
+    pub fn append(&mut self, action: u8) -> Result<(), LogFault>
+        ensures value { result ≡ (if nat_lt (length (entries self.old)) 20 then Ok tt else Err LogFault.Full) }
+        ensures entries { entries self.new ≡ (if is_ok result then entries self.old ++ (action ∷ []) else entries self.old) }
     {
-        if self.used == 20 {
-            return false;
+        if self.used == Self::MOST {
+            return Err(LogFault::Full);
         }
         self.table[self.used] = action;
         self.used += 1;
-        true
+        Ok(())
     }
 
     // The last entry less; the answer is that entry, if there was one.
@@ -94,18 +91,16 @@ impl ObservationLog {
         ensures value { result ≡ slice_get (entries self.old) (length (entries self.old) - 1) }
         ensures entries { entries self.new ≡ take (length (entries self.old) - 1) (entries self.old) }
     {
-        if self.used == 0 {
-            return None;
-        }
+        let last = *self.as_slice().last()?;
         self.used -= 1;
-        Some(self.table[self.used])
+        Some(last)
     }
 
     // How many entries are carried once the action has run, if count were before.
     pub fn advance(&self, count: usize, action: u8) -> usize
         ensures { result ≡ advance (entries self.now) count action }
     {
-        if count < self.used && self.table[count] == action {
+        if self.entry(count) == Some(action) {
             count + 1
         } else {
             count

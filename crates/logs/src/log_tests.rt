@@ -1,5 +1,6 @@
 // The log from empty to full, and past it.
 use crate::log::ObservationLog;
+use domain::fault::LogFault;
 use std::process::Abort;
 
 // A log to which the entries 100, 101 and so on were offered.
@@ -10,7 +11,7 @@ struct Row {
     len: u8,
     last: Option<u8>,
     // whether it takes one more
-    takes: bool,
+    taken: Result<(), LogFault>,
 }
 
 const ROWS: [Row; 5] = [
@@ -18,31 +19,31 @@ const ROWS: [Row; 5] = [
         offered: 0,
         len: 0,
         last: None,
-        takes: true,
+        taken: Ok(()),
     },
     Row {
         offered: 1,
         len: 1,
         last: Some(100),
-        takes: true,
+        taken: Ok(()),
     },
     Row {
         offered: 19,
         len: 19,
         last: Some(118),
-        takes: true,
+        taken: Ok(()),
     },
     Row {
         offered: 20,
         len: 20,
         last: Some(119),
-        takes: false,
+        taken: Err(LogFault::Full),
     },
     Row {
         offered: 23,
         len: 20,
         last: Some(119),
-        takes: false,
+        taken: Err(LogFault::Full),
     },
 ];
 
@@ -55,11 +56,7 @@ fn offered(count: u8) -> ObservationLog {
 }
 
 fn last(log: &ObservationLog) -> Option<u8> {
-    if log.len() == 0 {
-        None
-    } else {
-        log.entry(log.len() - 1)
-    }
+    log.as_slice().last().copied()
 }
 
 // Dropped from its end, the log gives its entries back, down to the first, and then none.
@@ -79,8 +76,8 @@ fn from_empty_to_full(rt: HostRuntime) {
         assert_eq!(rt; log.len(), len);
         assert_eq!(rt; last(&log), row.last);
         assert_eq!(rt; log.entry(len), None);
-        assert_eq!(rt; log.append(7), row.takes);
-        if row.takes {
+        assert_eq!(rt; log.append(7), row.taken);
+        if row.taken.is_ok() {
             assert_eq!(rt; log.entry(len), Some(7));
             assert_eq!(rt; log.drop_last(), Some(7));
         }

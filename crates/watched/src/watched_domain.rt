@@ -1,23 +1,56 @@
 // A watched domain is again a domain.
-ghost use Rattle.std.specs.Prelude.{◌≡◌, ◌+◌, ◌^◌, ◌<◌, nat_lt};
+ghost use Rattle.std.specs.Prelude.{◌≡◌, ◌+◌, ◌^◌, ◌<◌, length, nat_le, nat_lt};
 ghost use Rattle.logs.specs.Entries.{entries};
+ghost use Rattle.plans.specs.Counting.{may_run, advance};
 ghost use Rattle.plans.specs.Watched.{extra_bits, log_over, below, count, watched};
 ghost use Rattle.logs.proofs.Fronts.{few_entries};
 ghost use Rattle.plans.proofs.Watching.{watched_limits};
 
 use crate::watched::Watched;
 use domain::Domain;
-use logs::log::ObservationLog;
 
 impl<D: Domain> Watched<D> {
-    // The log that is followed: none over a domain that is too wide.
-    fn followed(&self) -> ObservationLog
-        ensures { entries result ≡ log_over (D.meaning self.now.domain) (entries self.now.log) }
+    // Whether the domain leaves room for a count of entries.
+    pub(crate) fn is_narrow(&self) -> bool
+        ensures { result ≡ nat_le (D.meaning self.now.domain).width 55 }
     {
-        if self.domain.width() <= 55 {
-            self.log
+        self.domain.width() <= 55
+    }
+
+    // How many bits a state has: those of the domain, and five for the count where there is room.
+    fn bits(&self) -> u8
+        ensures { result ≡ (D.meaning self.now.domain).width + extra_bits (D.meaning self.now.domain) }
+    {
+        self.domain.width() + if self.is_narrow() { 5 } else { 0 }
+    }
+
+    // How many entries are followed: none over a domain that is too wide.
+    fn followed(&self) -> usize
+        ensures { result ≡ length (log_over (D.meaning self.now.domain) (entries self.now.log)) }
+    {
+        if self.is_narrow() { self.log.len() } else { 0 }
+    }
+
+    // Whether the log that is followed lets the action run.
+    fn may_run(&self, action: u8) -> bool
+        ensures { result ≡ may_run (log_over (D.meaning self.now.domain) (entries self.now.log)) action ((D.meaning self.now.domain).marked action) }
+    {
+        let marked = self.domain.marked(action);
+        if self.is_narrow() {
+            self.log.may_run(action, marked)
         } else {
-            ObservationLog::new()
+            !marked
+        }
+    }
+
+    // How many entries are carried once the action has run, if count were before.
+    fn advance(&self, count: usize, action: u8) -> usize
+        ensures { result ≡ advance (log_over (D.meaning self.now.domain) (entries self.now.log)) count action }
+    {
+        if self.is_narrow() {
+            self.log.advance(count, action)
+        } else {
+            count
         }
     }
 
@@ -38,9 +71,7 @@ impl<D: Domain> Watched<D> {
     fn is_state(&self, state: u64) -> bool
         ensures { result ≡ nat_lt state (2 ^ ((D.meaning self.now.domain).width + extra_bits (D.meaning self.now.domain))) }
     {
-        let width = self.domain.width();
-        let bits = if width <= 55 { width + 5 } else { width };
-        state < 1u64 << bits
+        state < 1u64 << self.bits()
     }
 }
 
@@ -50,8 +81,7 @@ impl<D: Domain> Domain for Watched<D> {
     ghost limits = { λ d. watched_limits (D.Domain.meaning d.domain) (entries d.log) (D.Domain.limits d.domain) (few_entries d.log) };
 
     fn width(&self) -> u8 {
-        let width = self.domain.width();
-        if width <= 55 { width + 5 } else { width }
+        self.bits()
     }
 
     fn action_count(&self) -> u8 {
@@ -67,19 +97,19 @@ impl<D: Domain> Domain for Watched<D> {
     }
 
     fn runs(&self, state: u64, action: u8) -> bool {
-        let log = self.followed();
         self.is_state(state)
-            && self.count(state) <= log.len() as u64
+            && self.count(state) <= self.followed() as u64
             && self.domain.runs(self.below(state), action)
-            && log.may_run(action, self.domain.marked(action))
+            && self.may_run(action)
     }
 
     fn next(&self, state: u64, action: u8) -> u64 {
         if !self.runs(state, action) {
             return state;
         }
-        let carried = self.followed().advance(self.count(state) as usize, action);
-        self.domain.next(self.below(state), action) + ((carried as u64) << self.domain.width())
+        let below = self.below(state);
+        let carried = self.advance(self.count(state) as usize, action);
+        self.domain.next(below, action) + ((carried as u64) << self.domain.width())
     }
 
     fn cost(&self, action: u8) -> u16 {
@@ -98,6 +128,6 @@ impl<D: Domain> Domain for Watched<D> {
     fn complete(&self, state: u64) -> bool {
         self.is_state(state)
             && self.domain.complete(self.below(state))
-            && self.count(state) == self.followed().len() as u64
+            && self.count(state) == self.followed() as u64
     }
 }

@@ -53,14 +53,10 @@ impl<D: Domain> Watched<D> {
         if action >= self.domain.action_count() {
             return Err(LogFault::Action);
         }
-        if self.domain.width() > 55 {
+        if !self.is_narrow() {
             return Err(LogFault::Width);
         }
-        if self.log.append(action) {
-            Ok(())
-        } else {
-            Err(LogFault::Full)
-        }
+        self.log.append(action)
     }
 
     // The last entry less.
@@ -69,10 +65,7 @@ impl<D: Domain> Watched<D> {
         ensures log { entries self.new.log ≡ take (length (entries self.old.log) - 1) (entries self.old.log) }
         ensures domain { self.new.domain ≡ self.old.domain }
     {
-        if self.log.len() == 0 {
-            return Err(LogFault::Empty);
-        }
-        let _ = self.log.drop_last();
+        self.log.drop_last().ok_or(LogFault::Empty)?;
         Ok(())
     }
 }
