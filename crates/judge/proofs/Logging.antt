@@ -1,47 +1,28 @@
--- The marked actions of a list, looked at one after another.
-use Rattle.std.proofs.Common.{◌≡◌, ℕ, zero, suc, ◌+◌, ◌<◌, ◌≤◌, Bool, true, false, ◌⊎◌, List, [], ◌∷◌, ◌++◌, length, get_or, take, sym, refl, ap, ◌∙◌, subst, inl, inr, ⊎_elim, arith}
-use Rattle.std.proofs.lemmas.List.{take_all, take_more}
-use Rattle.std.proofs.lemmas.Bool.{eq-eqb, eqb-true, or_cases, or_left, or_right, not-true, true≢false, both_ways}
+-- Every marked action of a list is in the log exactly when every action of the list may run.
+use Rattle.std.proofs.Common.{◌≡◌, ◌↔◌, IsTrue, ℕ, Bool, true, List, [], ◌∷◌, sym, refl, ap, ◌∙◌, subst, ⊎_elim}
+use Rattle.std.specs.List.{list_all}
+use Rattle.std.proofs.lemmas.Bool.{and_from, and_parts, eq-eqb, eqb-true, or_cases, or_left, or_right, true≢false}
 use Rattle.domain.specs.Meaning.{Meaning}
-use Rattle.plans.specs.Logs.{occurs}
 use Rattle.plans.specs.Counting.{may_run}
-use Rattle.plans.specs.Logs.{Logged}
+use Rattle.plans.specs.Logs.{occurs, Logged}
+use Rattle.plans.proofs.Marks.{may_logged, logged_may}
 
-occurs_at : (list : List ℕ) (i : ℕ) → i < length list → occurs (get_or list i 0) list ≡ true
-occurs_at [] i h = absurd (omega arith)
-occurs_at (x ∷ list) zero h = or_left _ _ (eq-eqb x x refl)
-occurs_at (x ∷ list) (suc i) h = or_right _ _ (occurs_at list i (omega arith))
+module _ (d : Meaning) (log : List ℕ) where
+  abbrev may : ℕ → Bool
+  may a = may_run log a (d.marked a)
 
-occurs_push : (a b : ℕ) (list : List ℕ) → occurs a (list ++ (b ∷ [])) ≡ true → (occurs a list ≡ true) ⊎ (b ≡ a)
-occurs_push a b [] o = ⊎_elim (λ e. inr (eqb-true b a e)) (λ e. absurd (true≢false (sym e))) (or_cases _ _ o)
-occurs_push a b (x ∷ list) o = ⊎_elim (λ e. inl (or_left _ _ e)) (λ e. ⊎_elim (λ l. inl (or_right _ _ l)) inr (occurs_push a b list e)) (or_cases _ _ o)
+  all_may : (list : List ℕ) → Logged d log list → list_all may list ≡ true
+  all_may [] logged = refl
+  all_may (x ∷ list) logged = and_from _ _ (logged_may log x (d.marked x) (logged x (or_left _ _ (eq-eqb x x refl)))) (all_may list (λ a o. logged a (or_right _ _ o)))
 
--- an action that may run is in the log if it is marked
-may_logged : (a : ℕ) (log : List ℕ) (marked : Bool) → may_run log a marked ≡ true → marked ≡ true → occurs a log ≡ true
-may_logged a log marked may m = ⊎_elim (λ n. absurd (both_ways marked (not-true marked n) m)) (λ o. o) (or_cases _ _ may)
+  may_all : (list : List ℕ) → list_all may list ≡ true → Logged d log list
+  may_all [] all a o m = absurd (true≢false (sym o))
+  may_all (x ∷ list) all a o m =
+      let both = and_parts _ _ all in
+      ⊎_elim
+      (λ e. let here : x ≡ a = eqb-true x a e in subst (λ y. occurs y log ≡ true) here (may_logged log x (d.marked x) both.0 (ap d.marked here ∙ m)))
+      (λ later. may_all list both.1 a later m)
+      (or_cases _ _ o)
 
-logged_may : (a : ℕ) (log : List ℕ) (marked : Bool) → (marked ≡ true → occurs a log ≡ true) → may_run log a marked ≡ true
-logged_may a log true h = h refl
-logged_may a log false h = refl
-
-module _ (d : Meaning) (log list : List ℕ) where
-  pub logged_none : Logged d log (take 0 list)
-  logged_none a o m = absurd (true≢false (sym o))
-
-  -- the action at i may run, or may not
-  module _ (i : ℕ) (inside : i < length list) (marked may : Bool) (is_marked : marked ≡ d.marked (get_or list i 0)) (is_may : may ≡ may_run log (get_or list i 0) marked) where
-    pub logged_more : may ≡ true → Logged d log (take i list) → Logged d log (take (i + 1) list)
-    logged_more yes_may front a o m =
-        let b = get_or list i 0 in
-        ⊎_elim
-        (λ before. front a before m)
-        (λ e. subst (λ x. occurs x log ≡ true) e (may_logged b log marked (sym is_may ∙ yes_may) (is_marked ∙ ap d.marked e ∙ m)))
-        (occurs_push a b (take i list) (ap (occurs a) (sym (take_more list i 0 inside)) ∙ o))
-
-    pub logged_not : may ≡ false → Logged d log list → ⊥
-    logged_not no_may all =
-        let b = get_or list i 0 in
-        both_ways may no_may (is_may ∙ logged_may b log marked (λ m. all b (occurs_at list i inside) (sym is_marked ∙ m)))
-
-  pub logged_all : (i : ℕ) → length list ≤ i → Logged d log (take i list) → Logged d log list
-  logged_all i h front = subst (Logged d log) (take_all i list h) front
+  pub all_logged : (list : List ℕ) (r : Bool) → r ≡ list_all may list → IsTrue r ↔ Logged d log list
+  all_logged list r asked = ((λ t. may_all list (sym asked ∙ t)), (λ logged. asked ∙ all_may list logged))

@@ -1,7 +1,8 @@
 -- The places of the entries that a list carries, one action after another.
-use Rattle.std.proofs.Common.{◌≡◌, ℕ, ◌+◌, ◌<◌, ◌≤◌, cond, ◌&&◌, eqb, ltb, List, [], ◌∷◌, ◌++◌, length, get_or, take, drop, set, sym, refl, ap, ◌∙◌, subst, ⊎_elim, arith}
+use Rattle.std.proofs.Common.{◌≡◌, ℕ, ◌+◌, ◌<◌, ◌≤◌, List, [], ◌∷◌, ◌++◌, length, get_or, take, drop, set, sym, refl, ap, ◌∙◌, subst, ⊎_elim, arith}
 use Rattle.std.proofs.lemmas.List.{take_more, length_push, length-take-le, get_or_append_left, get_or_push, get_or-set_same, get_or-set_other, get_or-take, drop-set-lt, drop-drop}
-use Rattle.std.proofs.lemmas.Bool.{cases_Bool, cases_lt, and_parts, ltb-true, eqb-true, lt-ltb, cond-true, cond-false}
+use Rattle.std.proofs.lemmas.Bool.Decides.{nat_tests}
+use Rattle.std.proofs.lemmas.Bool.{cases_lt}
 use Rattle.plans.specs.Counting.{advance, advance_all}
 use Rattle.plans.proofs.Carrying.{advance_low, carries_counted}
 use Rattle.judge.specs.Carried.{CarriedAt, NoneLonger}
@@ -9,7 +10,7 @@ use Rattle.judge.specs.Carried.{CarriedAt, NoneLonger}
 -- how the count grows
 module _ (log : List ℕ) (k a : ℕ) where
   pub advance_high : k ≤ advance log k a
-  advance_high = ⊎_elim (λ e. omega (arith, cond-true _ (k + 1) k e)) (λ e. omega (arith, cond-false _ (k + 1) k e)) (cases_Bool (ltb k (length log) && eqb (get_or log k 0) a))
+  advance_high = grind (arith, nat_tests)
 
   -- where it grows, it grows by one, and the action is the next entry
   pub record Grown : Type 0 where
@@ -18,10 +19,7 @@ module _ (log : List ℕ) (k a : ℕ) where
     pub entry : get_or log k 0 ≡ a
 
   pub advance_grown : k < advance log k a → Grown
-  advance_grown h = ⊎_elim
-      (λ e. let both = and_parts _ _ e in record { by_one = cond-true _ (k + 1) k e; inside = ltb-true k (length log) both.0; entry = eqb-true (get_or log k 0) a both.1 })
-      (λ e. absurd (omega (arith, cond-false _ (k + 1) k e)))
-      (cases_Bool (ltb k (length log) && eqb (get_or log k 0) a))
+  advance_grown h = record { by_one = grind (arith, nat_tests); inside = grind (arith, nat_tests); entry = grind (arith, nat_tests) }
 
 -- one action more at the end of the list
 module _ (log list places : List ℕ) (count a : ℕ) (carried : CarriedAt log list places count) where
@@ -80,9 +78,7 @@ module _ (log : List ℕ) (n : ℕ) (fits : n ≤ length log) where
 
   -- below n a beginning of length n is followed as the log is
   same_advance : (k a : ℕ) → k < n → advance (take n log) k a ≡ advance log k a
-  same_advance k a h =
-      ap (λ b. cond (b && eqb (get_or (take n log) k 0) a) (k + 1) k) (lt-ltb k (length (take n log)) (omega (arith, front_length)) ∙ sym (lt-ltb k (length log) (omega arith)))
-      ∙ ap (λ x. cond (ltb k (length log) && eqb x a) (k + 1) k) (get_or-take n log k 0 h)
+  same_advance k a h = let same = get_or-take n log k 0 h in let size = front_length in grind (arith, nat_tests)
 
   front_count : (k : ℕ) (list : List ℕ) → k ≤ n → advance_all (take n log) k list ≤ advance_all log k list
   front_count k [] h = omega arith
@@ -104,13 +100,6 @@ pub record Followed (log list before places : List ℕ) (n count : ℕ) : Type 0
   pub carried : CarriedAt log (take n list) places count
   pub counted : count ≡ advance_all log 0 (take n list)
   pub rest : drop count places ≡ drop count before
-
-pub followed_none : (log list places : List ℕ) → Followed log list places places 0 0
-followed_none log list places = record {
-  carried = record { few = omega arith; within = λ j h. absurd (omega arith); same = λ j h. absurd (omega arith); rising = λ i j l h. absurd (omega arith) };
-  counted = refl;
-  rest = refl;
-}
 
 -- one action more
 module _ (log list before places : List ℕ) (n count grown : ℕ) (followed : Followed log list before places n count) (inside : n < length list) (is-grown : grown ≡ advance log count (get_or list n 0)) where

@@ -1,12 +1,8 @@
 -- The first actions of a list, run one after another from the start.
-use Rattle.std.proofs.Common.{◌≡◌, ℕ, ◌+◌, ◌*◌, ◌<◌, ◌≤◌, Bool, true, List, [], ◌∷◌, ◌++◌, length, get_or, take, sym, refl, ap, ◌∙◌, subst, arith}
+use Rattle.std.proofs.Common.{◌≡◌, ℕ, ◌+◌, ◌*◌, ◌<◌, ◌≤◌, true, List, [], ◌∷◌, ◌++◌, length, get_or, take, sym, refl, ap, ◌∙◌, subst, arith}
 use Rattle.std.proofs.lemmas.List.{take_more}
 use Rattle.domain.specs.Meaning.{Meaning}
 use Rattle.plans.specs.Plans.{after, RunsAll, cost_of}
-
--- whether an action can run, as it was asked
-pub can_run : (d : Meaning) (state a : ℕ) (asked answer : Bool) → asked ≡ d.runs state a → asked ≡ answer → d.runs state a ≡ answer
-can_run d state a asked answer e f = sym e ∙ f
 
 -- one action more at the end
 module _ (d : Meaning) (a : ℕ) where
@@ -42,7 +38,3 @@ module _ (d : Meaning) (list : List ℕ) (n state cost : ℕ) (ran : Ran d list 
         costs = sym (ap (cost_of d) grown ∙ cost_push d a front ∙ omega (arith, ran.costs));
         low = omega (arith, ran.low);
       }
-
-  -- the whole list has run
-  pub ran_all : n ≡ length list → Ran d list (length list) state cost
-  ran_all e = subst (λ m. Ran d list m state cost) e ran

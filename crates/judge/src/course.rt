@@ -5,7 +5,7 @@ ghost use Rattle.plans.specs.Plans.{after, RunsAll, cost_of};
 use domain::Domain;
 
 // The actions of a list that run one after another from the start, up to the first that cannot.
-#[derive(Clone, Copy)]
+#[derive(Clone, Copy, PartialEq, Eq, Debug)]
 pub struct Course {
     // how many they are
     pub ran: usize,

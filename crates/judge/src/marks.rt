@@ -1,5 +1,5 @@
 // Whether a log admits a list of actions.
-ghost use Rattle.std.specs.Prelude.{Decides};
+ghost use Rattle.std.specs.Prelude.{◌↔◌, IsTrue};
 ghost use Rattle.logs.specs.Entries.{entries};
 ghost use Rattle.plans.specs.Logs.{Logged};
 
@@ -8,12 +8,8 @@ use logs::log::ObservationLog;
 
 // Whether every marked action of the list is in the log.
 pub fn admits<D: Domain>(domain: &D, log: &ObservationLog, list: &[u8]) -> bool
-    ensures { Decides result (Logged (D.meaning domain.now) (entries log.now) list.now) }
+    ensures { IsTrue result ↔ Logged (D.meaning domain.now) (entries log.now) list.now }
 {
-    for action in list {
-        if !log.may_run(*action, domain.marked(*action)) {
-            return false;
-        }
-    }
-    true
+    list.iter()
+        .all(|action| log.may_run(*action, domain.marked(*action)))
 }
