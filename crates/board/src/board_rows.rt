@@ -35,6 +35,7 @@ impl Board {
         ensures value { result ≡ (nat_lt goal 32 && agrees row) }
         ensures rows { self.new.rows ≡ (if result then slice_set self.old.rows goal row else self.old.rows) }
     {
+        // by index: after `get_mut` the check finds neither the invariant nor the other rows again
         if goal < 32 && row.agrees() {
             self.rows[usize::from(goal)] = row;
             true
