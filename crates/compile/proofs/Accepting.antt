@@ -1,6 +1,7 @@
 -- What is known of a card and a log of which all questions are answered yes.
 use Rattle.std.proofs.Common.{◌≡◌, ℕ, zero, suc, ◌+◌, ◌<◌, ◌≤◌, Bool, true, false, cond, leb, List, [], ◌∷◌, length, get_or, Ok, Err, Result, sym, refl, ap, ◌∙◌, subst, arith}
-use Rattle.std.proofs.lemmas.Bool.{and_parts, ltb-true, leb-true, le-leb, cond-true}
+use Rattle.std.proofs.lemmas.Bool.Decides.{nat_tests}
+use Rattle.std.proofs.lemmas.Bool.{and_parts, leb-true}
 use Rattle.domain.specs.declared.fault.LogFault.{LogFault}
 use Rattle.domain.specs.declared.fault.LogFault.TheVariants.{Action, Full}
 use Rattle.cards.specs.Contents.{Contents}
@@ -11,25 +12,22 @@ use Rattle.compile.specs.declared.fault.CompileFault.TheVariants.{Fluents, Actio
 -- a test that decides between an answer and a refusal was passed where there is an answer
 passed : {X E : Type 0} (b : Bool) (r : Result X E) (e : E) (x : X) → cond b r (Err e) ≡ Ok x → (b ≡ true) × (r ≡ Ok x)
 passed true r e x h = (refl, h)
-passed false r e x h = let z : ◌≡◌ {A = ℕ} 0 1 = cc in absurd (omega arith)
-
-ok_same : {X E : Type 0} (x y : X) → ◌≡◌ {A = Result X E} (Ok x) (Ok y) → x ≡ y
-ok_same x y h = cc
+passed false r e x h = absurd cc
 
 below_at : (n : ℕ) (xs : List ℕ) → all_below n xs ≡ true → (j : ℕ) → j < length xs → get_or xs j 0 < n
 below_at n [] h j l = absurd (omega arith)
-below_at n (x ∷ xs) h zero l = ltb-true x n (and_parts _ _ h).0
+below_at n (x ∷ xs) h zero l = grind (arith, nat_tests)
 below_at n (x ∷ xs) h (suc j) l = below_at n xs (and_parts _ _ h).1 j (omega arith)
 
 log_ok : (bytes log : List ℕ) (n : ℕ) → read_log bytes n ≡ Ok log → (log ≡ bytes) × (length bytes ≤ 20) × (all_below n bytes ≡ true)
 log_ok bytes log n h =
     let few = passed (leb (length bytes) 20) _ Full log h in
     let below = passed (all_below n bytes) (Ok bytes) Action log few.1 in
-    (sym (ok_same bytes log below.1), leb-true (length bytes) 20 few.0, below.0)
+    ((cc below.1), leb-true (length bytes) 20 few.0, below.0)
 
 read_first : (c : Contents) (r : Result (List ℕ) LogFault) (log : List ℕ) → then_fitting c r ≡ Ok log → (read : List ℕ) × (r ≡ Ok read) × (fitting c read ≡ Ok log)
 read_first c (Ok read) log h = (read, refl, h)
-read_first c (Err e) log h = let z : ◌≡◌ {A = ℕ} 0 1 = cc in absurd (omega arith)
+read_first c (Err e) log h = absurd cc
 
 pub accepted_fits : (c : Contents) (bytes log : List ℕ) → accepted_log c bytes ≡ Ok log → Fits c log × (log ≡ bytes)
 accepted_fits c bytes log h =
@@ -39,7 +37,7 @@ accepted_fits c bytes log h =
     let fluents = passed (leb (c.fluents + length read) 55) _ Fluents log first.2 in
     let actions = passed (leb (length c.actions + length read) 120) _ Actions log fluents.1 in
     let goals = passed (leb (length c.goals + length c.goals) 32) (Ok read) Goals log actions.1 in
-    let same : read ≡ log = ok_same read log goals.1 in
+    let same : read ≡ log = cc goals.1 in
     let few : length read ≤ 20 = omega (arith, ap length told.0, told.1) in
     let fits : Fits c read = record {
       few = few;
@@ -49,13 +47,3 @@ accepted_fits c bytes log h =
       goals_high = leb-true (length c.goals + length c.goals) 32 goals.0;
     } in
     (subst (Fits c) same fits, sym same ∙ told.0)
-
--- a log that was read, and limits that are kept
-pub log_accepted : (c : Contents) (bytes log : List ℕ) (n : ℕ) → n ≡ length c.actions → Ok log ≡ read_log bytes n → c.fluents + length log ≤ 55 → length c.actions + length log ≤ 120 → length c.goals + length c.goals ≤ 32 → Ok log ≡ accepted_log c bytes
-log_accepted c bytes log n same read fluents actions goals =
-    sym (
-    ap (then_fitting c) (ap (read_log bytes) (sym same) ∙ sym read)
-    ∙ cond-true _ _ _ (le-leb (c.fluents + length log) 55 fluents)
-    ∙ cond-true _ _ _ (le-leb (length c.actions + length log) 120 actions)
-    ∙ cond-true _ _ _ (le-leb (length c.goals + length c.goals) 32 goals)
-    )

@@ -1,5 +1,5 @@
 -- The compiled card keeps the limits of a card.
-use Rattle.std.proofs.Common.{ℕ, zero, suc, ◌+◌, ◌-◌, ◌<◌, ◌≤◌, eqb, ltb, List, map, length, get_or, sym, subst, arith, pow_mono}
+use Rattle.std.proofs.Common.{ℕ, zero, suc, ◌+◌, ◌-◌, ◌<◌, ◌≤◌, eqb, ltb, List, map, length, get_or, arith, pow_mono}
 use Rattle.std.specs.List.{range_with_len}
 use Rattle.std.proofs.lemmas.Nat.{pow_pos, pow_below, or_lt}
 use Rattle.std.proofs.lemmas.List.FromFn.{length-map-range_with_len, get_or-map-range_with_len}
@@ -67,7 +67,7 @@ module _ (c : Contents) (log : List ℕ) (l : InLimits c) (fits : Fits c log) wh
   every : {X : Type 0} (P : X → Type 0) (f : ℕ → X) (n : ℕ) → ((a : ℕ) → a < n → P (f a)) → (k : ℕ) (d : X) → k < length (map f (range_with_len 0 n)) → P (get_or (map f (range_with_len 0 n)) k d)
   every P f n each k d h =
       let in_range : k < n = omega (arith, length-map-range_with_len f 0 n) in
-      subst P (sym (get_or-map-range_with_len f 0 n k k d in_range (omega arith))) (each k in_range)
+      rw (get_or-map-range_with_len f 0 n k k d in_range (omega arith)) (each k in_range)
 
   pub compiled_limits : InLimits (compiled c log)
   compiled_limits =

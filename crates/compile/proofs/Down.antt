@@ -1,5 +1,6 @@
 -- What the compiled card runs, the card runs too, at no higher cost: a copy is the action of its entry, and what has lost its effect is left out.
 use Rattle.std.proofs.Common.{◌≡◌, ℕ, ◌+◌, ◌-◌, ◌<◌, ◌≤◌, true, eqb, List, [], ◌∷◌, length, get_or, sym, ap, ◌∙◌, subst, ⊎_elim, arith}
+use Rattle.std.proofs.lemmas.Bool.Decides.{nat_tests}
 use Rattle.std.proofs.lemmas.Bool.{cases_Bool, cases_lt, or_cases, eqb-true, true≢false}
 use Rattle.domain.specs.Meaning.{Meaning}
 use Rattle.fluents.specs.Fluents.{holds}
@@ -16,11 +17,7 @@ use Rattle.compile.proofs.Steps.{Over, before_holds, own_runs_below, own_cost, o
 
 -- one action more at the front of a list whose marked actions are in the log
 logged_more : (d : Meaning) (log plan : List ℕ) (b : ℕ) → (d.marked b ≡ true → occurs b log ≡ true) → Logged d log plan → Logged d log (b ∷ plan)
-logged_more d log plan b here later a o m =
-    ⊎_elim
-    (λ e. subst (λ n. occurs n log ≡ true) (eqb-true b a e) (here (subst (λ n. d.marked n ≡ true) (sym (eqb-true b a e)) m)))
-    (λ o. later a o m)
-    (or_cases _ _ o)
+logged_more d log plan b here later a o m = grind (arith, nat_tests, here, later a)
 
 module _ (c : Contents) (log : List ℕ) (new : Contents) (shape : Shape c log new) where
   -- the marks that hold are those of counted entries

@@ -1,8 +1,7 @@
 -- Which goals are met in a state of the compiled card and in the state that it lies over.
-use Rattle.std.proofs.Common.{◌≡◌, ℕ, zero, suc, ◌+◌, ◌<◌, ◌≤◌, true, List, length, sym, subst, ⊎_elim, arith}
+use Rattle.std.proofs.Common.{◌≡◌, ℕ, zero, suc, ◌+◌, ◌<◌, ◌≤◌, true, List, length, subst, ⊎_elim, arith}
 use Rattle.std.proofs.lemmas.Bool.{cases_lt}
 use Rattle.fluents.specs.Fluents.{holds, Within}
-use Rattle.fluents.specs.declared.FluentSet.{FluentSet}
 use Rattle.cards.specs.Cards.{empty_set, goal_at, meaning_of}
 use Rattle.cards.specs.Contents.{Contents}
 use Rattle.cards.specs.Laws.{decides_meets}
@@ -34,17 +33,17 @@ module _ (c : Contents) (log : List ℕ) (new : Contents) (shape : Shape c log n
   own_above e = within_above c new x s over (goal_at c g).0 (shape.card.goals_among g empty_set h) ((decides_meets c s g).0 e).2
 
   pub meets_below : (meaning_of new).meets x g ≡ true → (meaning_of c).meets s g ≡ true
-  meets_below e = own_below (subst (λ (set : FluentSet). Within set.0 x) (shape.own_goal g h) ((decides_meets new x g).0 e).2)
+  meets_below e = own_below (rw (shape.own_goal g h) at ((decides_meets new x g).0 e).2)
 
   pub meets_above : (meaning_of c).meets s g ≡ true → (meaning_of new).meets x g ≡ true
-  meets_above e = (decides_meets new x g).1 (over.state, omega (arith, shape.goals, h), subst (λ (set : FluentSet). Within set.0 x) (sym (shape.own_goal g h)) (own_above e))
+  meets_above e = (decides_meets new x g).1 (over.state, omega (arith, shape.goals, h), rw (shape.own_goal g h) (own_above e))
 
   pub log_below : (meaning_of new).meets x (length c.goals + g) ≡ true → ((meaning_of c).meets s g ≡ true) × ((j : ℕ) → j < length log → holds (c.fluents + j) x ≡ true)
   log_below e =
-      let both = both_within x (goal_at c g).0 (marks c (length log)).0 (subst (λ (set : FluentSet). Within set.0 x) (shape.log_goal g h) ((decides_meets new x (length c.goals + g)).0 e).2) in
+      let both = both_within x (goal_at c g).0 (marks c (length log)).0 (rw (shape.log_goal g h) at ((decides_meets new x (length c.goals + g)).0 e).2) in
       (own_below both.0, within_marks c x (length log) both.1)
 
   pub log_above : (meaning_of c).meets s g ≡ true → ((j : ℕ) → j < length log → holds (c.fluents + j) x ≡ true) → (meaning_of new).meets x (length c.goals + g) ≡ true
   log_above e held =
       let both : Within _ x = within_both x (goal_at c g).0 (marks c (length log)).0 (own_above e) (marks_within c x (length log) held) in
-      (decides_meets new x (length c.goals + g)).1 (over.state, omega (arith, shape.goals, h), subst (λ (set : FluentSet). Within set.0 x) (sym (shape.log_goal g h)) both)
+      (decides_meets new x (length c.goals + g)).1 (over.state, omega (arith, shape.goals, h), rw (shape.log_goal g h) both)

@@ -1,13 +1,12 @@
 -- A goal stands on a card with a log exactly when two goals of the compiled card have a common least cost.
-use Rattle.std.proofs.Common.{◌≡◌, ℕ, ◌+◌, ◌<◌, ◌≤◌, List, length, IfOk, Some, Ok, Err, Result, sym, refl, ap, ◌∙◌, subst, ⊎_elim, arith}
+use Rattle.std.proofs.Common.{◌≡◌, ℕ, ◌+◌, ◌<◌, ◌≤◌, List, length, Some, Ok, Err, Result, refl, ap, ◌∙◌, subst, ⊎_elim, arith}
 use Rattle.std.proofs.lemmas.Bool.{cases_lt, lt-ltb, eq-eqb, cond-true, both_ways}
 use Rattle.domain.specs.Meaning.{Meaning}
 use Rattle.fluents.specs.Fluents.{holds}
 use Rattle.fluents.specs.declared.FluentSet.{FluentSet}
 use Rattle.fluents.proofs.Sets.{holds_past}
 use Rattle.cards.specs.Cards.{meaning_of}
-use Rattle.cards.specs.Contents.{Contents, contents, InLimits}
-use Rattle.cards.specs.declared.card.Card.{Card}
+use Rattle.cards.specs.Contents.{Contents}
 use Rattle.plans.specs.Counting.{advance_all}
 use Rattle.plans.specs.Logs.{Admitted, Whole, Stands}
 use Rattle.plans.specs.Plans.{cost_of, PlanFor, LeastCost}
@@ -15,10 +14,9 @@ use Rattle.plans.proofs.Carrying.{counted_carries, carries_counted}
 use Rattle.plans.proofs.Judging.{judges_rightly}
 use Rattle.compile.specs.Compiled.{compiled}
 use Rattle.compile.specs.Law.{SameLeastCost, StandsByCosts, CompileLaw}
-use Rattle.compile.specs.Outcome.{compiled_if, compile_log, outcome}
+use Rattle.compile.specs.Outcome.{compiled_if}
 use Rattle.compile.specs.Questions.{accepted_log}
 use Rattle.compile.specs.declared.fault.CompileFault.{CompileFault}
-use Rattle.compile.specs.declared.uncompiled.Uncompiled.{Uncompiled}
 use Rattle.compile.proofs.Accepting.{accepted_fits}
 use Rattle.compile.proofs.Costs.{CostsAtMost, least_over}
 use Rattle.compile.proofs.Down.{Counted, Below, ran_below}
@@ -116,7 +114,7 @@ module _ (c : Contents) (log : List ℕ) (new : Contents) (shape : Shape c log n
 
 ok_card : (c : Contents) (r : Result (List ℕ) CompileFault) (new : Contents) → compiled_if c r ≡ Ok new → (log : List ℕ) × (r ≡ Ok log) × (compiled c log ≡ new)
 ok_card c (Ok log) new e = (log, refl, cc)
-ok_card c (Err fault) new e = let z : ◌≡◌ {A = ℕ} 0 1 = cc in absurd (omega arith)
+ok_card c (Err fault) new e = absurd cc
 
 pub compile_law : CompileLaw
 compile_law c bytes new l e =
@@ -124,8 +122,3 @@ compile_law c bytes new l e =
     let log = was.0 in
     let yes = accepted_fits c bytes log was.1 in
     subst (StandsByCosts c bytes) was.2 (subst (λ bytes. StandsByCosts c bytes (compiled c log)) yes.1 (stands_by_costs c log (compiled c log) (compiled_shape c log l yes.0)))
-
--- the card that a call hands back
-pub handed_back : (c : Contents) (bytes : List ℕ) → InLimits c → (r : Result Card Uncompiled) → outcome r ≡ compile_log c bytes → IfOk r (λ new. StandsByCosts c bytes (contents new))
-handed_back c bytes l (Ok new) e = compile_law c bytes (contents new) l (sym e)
-handed_back c bytes l (Err u) e = tt

@@ -1,5 +1,6 @@
 -- What the card runs under the log, the compiled card runs too, at the same cost: the copy of an entry stands wherever the action carries it.
 use Rattle.std.proofs.Common.{◌≡◌, ℕ, ◌+◌, ◌-◌, ◌<◌, ◌≤◌, true, List, [], ◌∷◌, length, get_or, sym, refl, ap, ◌∙◌, subst, ⊎_elim, arith}
+use Rattle.std.proofs.lemmas.Bool.Decides.{nat_tests}
 use Rattle.std.proofs.lemmas.Bool.{cases_lt, cases_eq, or_left, or_right, eq-eqb}
 use Rattle.fluents.specs.Fluents.{holds}
 use Rattle.cards.specs.Cards.{action_at, meaning_of, Runs}
@@ -39,12 +40,7 @@ module _ (c : Contents) (log : List ℕ) (new : Contents) (shape : Shape c log n
     own_marked a h r j t = own_marks c log new shape x s over a h r (c.fluents + j) (omega arith) ∙ marked j t
 
     copy_marked : (h : k < length log) → Runs new x (length c.actions + k) → Marked ((meaning_of new).next x (length c.actions + k)) (k + 1)
-    copy_marked h r j t =
-        copy_marks c log new shape x s over k h r (c.fluents + j) (omega arith)
-        ∙ ⊎_elim
-        (λ (earlier : j < k). or_right _ _ (marked j earlier))
-        (λ (last : k ≤ j). or_left _ _ (eq-eqb (c.fluents + j) (c.fluents + k) (omega arith)))
-        (cases_lt j k)
+    copy_marked h r j t = grind (arith, nat_tests, copy_marks c log new shape x s over k h r (c.fluents + j) (omega arith), marked j)
 
     -- the next entry can be carried
     copy_run : (h : k < length log) → Runs c s (get_or log k 0) → Runs new x (length c.actions + k)

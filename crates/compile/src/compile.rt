@@ -16,7 +16,8 @@ use domain::Domain;
 use domain::room::Room;
 use fluents::FluentSet;
 
-// The parts of the numbers below the count, in their order, go behind what the place holds.
+// What the closure makes of the numbers below the count goes, in their order, behind what the place holds.
+// So the values of a function are added where the closure answers by that function.
 fn push_each<T, F: Fn(u8) -> T>(place: &mut Vec<T>, count: u8, part: F)
     requires wide { vec_len place.old + count ≤ vec_capacity place.old }
     requires callable { (number : ℕ) → number < count → F.pre part number }
@@ -24,6 +25,7 @@ fn push_each<T, F: Fn(u8) -> T>(place: &mut Vec<T>, count: u8, part: F)
     ensures len { vec_len place.new ≡ vec_len place.old + count }
     ensures capacity { vec_capacity place.new ≡ vec_capacity place.old }
 {
+    // by a loop: `extend` may fail for want of memory, and this room is reserved
     for number in 0..count {
         place.push_reserved(part(number));
     }
@@ -40,21 +42,20 @@ impl Accepted<'_> {
             mut goals,
         } = room;
         let action_count = self.card.action_count();
-        let entry_count = self.log.len() as u8;
         let goal_count = self.card.goal_count();
         push_each(&mut actions, action_count, |number| self.own_action(number));
-        push_each(&mut actions, entry_count, |place| self.copy(place));
-        push_each(&mut goals, goal_count, |number| self.own_goal(number));
+        push_each(&mut actions, self.entry_count(), |place| self.copy(place));
+        push_each(&mut goals, goal_count, |number| self.goal(number));
         push_each(&mut goals, goal_count, |number| self.with_log(number));
         (actions, goals)
     }
 
     // The compiled card, in the room for it.
-    fn card(&self, room: Room<Action, FluentSet>) -> Card
+    fn compiled(&self, room: Room<Action, FluentSet>) -> Card
         ensures { contents result ≡ compiled (contents self.now.card.now) (entries self.now.log) }
     {
         let (actions, goals) = self.parts(room);
-        let fluents = self.card.width() + self.log.len() as u8;
+        let fluents = self.card.width() + self.entry_count();
         let start = FluentSet::from(self.card.start());
         Card::new(fluents, start, actions, goals).unwrap()
     }
@@ -73,7 +74,7 @@ pub(crate) fn compile(
     ensures law { CompileLaw }
 {
     match Accepted::new(card, log) {
-        Ok(accepted) => Ok(accepted.card(room)),
+        Ok(accepted) => Ok(accepted.compiled(room)),
         Err(fault) => Err(Uncompiled { fault, room }),
     }
 }

@@ -1,16 +1,54 @@
 // The actions and the goals of a compiled card.
-ghost use Rattle.std.specs.Prelude.{◌≡◌, ◌<◌, length};
-ghost use Rattle.cards.specs.Cards.{goal_at};
+ghost use Rattle.std.specs.Prelude.{◌≡◌, ◌<◌, length, slice_index};
+ghost use Rattle.cards.specs.Cards.{action_at, goal_at};
 ghost use Rattle.cards.specs.Contents.{contents};
 ghost use Rattle.logs.specs.Entries.{entries};
-ghost use Rattle.compile.specs.Compiled.{effect, mark, marks, mark_before, own_action, copy, with_log};
+ghost use Rattle.compile.specs.Compiled.{union, effect, mark, marks, mark_before, own_action, copy, with_log};
 
 use crate::accepted::Accepted;
 use cards::action::Action;
 use domain::Domain;
 use fluents::FluentSet;
 
+// The fluents of either set.
+fn union(a: FluentSet, b: FluentSet) -> FluentSet
+    ensures { result ≡ union a b }
+{
+    a.with(b)
+}
+
 impl Accepted<'_> {
+    // How many entries the log has.
+    pub(crate) fn entry_count(&self) -> u8
+        ensures { result ≡ length (entries self.now.log) }
+    {
+        self.log.len() as u8
+    }
+
+    // The entry at a place.
+    fn entry(&self, place: u8) -> u8
+        requires { place < length (entries self.now.log) }
+        ensures { result ≡ slice_index (entries self.now.log) place }
+    {
+        self.log.entry(usize::from(place)).unwrap()
+    }
+
+    // The card's action of a number.
+    fn action(&self, number: u8) -> Action
+        requires { number < length (contents self.now.card.now).actions }
+        ensures { result ≡ action_at (contents self.now.card.now) number }
+    {
+        self.card.action(number).unwrap()
+    }
+
+    // The card's goal of a number.
+    pub(crate) fn goal(&self, number: u8) -> FluentSet
+        requires { number < length (contents self.now.card.now).goals }
+        ensures { result ≡ goal_at (contents self.now.card.now) number }
+    {
+        self.card.goal(number).unwrap()
+    }
+
     // The mark of an entry.
     fn mark(&self, place: u8) -> FluentSet
         requires { place < length (entries self.now.log) }
@@ -24,8 +62,9 @@ impl Accepted<'_> {
         ensures { result ≡ marks (contents self.now.card.now) (length (entries self.now.log)) }
     {
         let mut set = FluentSet::default();
-        for place in 0..self.log.len() as u8 {
-            set = set.with(self.mark(place));
+        // by a loop: the check does not find what a fold over a range of numbers gives
+        for place in 0..self.entry_count() {
+            set = union(set, self.mark(place));
         }
         set
     }
@@ -53,12 +92,12 @@ impl Accepted<'_> {
         }
     }
 
-    // An action of the card itself.
+    // What becomes of an action of the card itself.
     pub(crate) fn own_action(&self, number: u8) -> Action
         requires { number < length (contents self.now.card.now).actions }
         ensures { result ≡ own_action (contents self.now.card.now) (entries self.now.log) number }
     {
-        let own = self.card.action(number).unwrap();
+        let own = self.action(number);
         Action {
             adds: self.effect(number, own.marked, own.adds),
             deletes: self.effect(number, own.marked, own.deletes),
@@ -72,29 +111,20 @@ impl Accepted<'_> {
         requires { place < length (entries self.now.log) }
         ensures { result ≡ copy (contents self.now.card.now) (entries self.now.log) place }
     {
-        let number = self.log.entry(usize::from(place)).unwrap();
-        let own = self.card.action(number).unwrap();
+        let own = self.action(self.entry(place));
         Action {
-            needs: own.needs.with(self.mark_before(place)),
-            adds: own.adds.with(self.mark(place)),
+            needs: union(own.needs, self.mark_before(place)),
+            adds: union(own.adds, self.mark(place)),
             marked: false,
             ..own
         }
     }
 
-    // A goal of the card itself.
-    pub(crate) fn own_goal(&self, number: u8) -> FluentSet
-        requires { number < length (contents self.now.card.now).goals }
-        ensures { result ≡ goal_at (contents self.now.card.now) number }
-    {
-        self.card.goal(number).unwrap()
-    }
-
-    // The same goal together with the log.
+    // The card's goal of a number, together with the log.
     pub(crate) fn with_log(&self, number: u8) -> FluentSet
         requires { number < length (contents self.now.card.now).goals }
         ensures { result ≡ with_log (contents self.now.card.now) (entries self.now.log) (goal_at (contents self.now.card.now) number) }
     {
-        self.own_goal(number).with(self.marks())
+        union(self.goal(number), self.marks())
     }
 }

@@ -8,7 +8,7 @@ use Rattle.compile.proofs.compile.compile.Goals as goal
 pub returns-in-Ok-clause-stands : goal.returns-in-Ok-clause-stands
 returns-in-Ok-clause-stands c =
     let card = contents c.args.card.now in
-    let new = contents c.card.result in
+    let new = contents c.compiled.result in
     let value : Ok new ≡ compile_log card c.args.log.now = search rules in
     compile_law card c.args.log.now new (in_limits c.args.card.now) (sym value)
 
