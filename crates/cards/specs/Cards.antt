@@ -1,5 +1,5 @@
 -- What a card means as a planning domain, and the same in the words of fluents.
-use Rattle.std.specs.Prelude.{◌≡◌, ℕ, ◌^◌, ◌<◌, Bool, false, cond, not, ◌&&◌, ◌||◌, length, MatchOption, nat_lt, slice_index_or}
+use Rattle.std.specs.Prelude.{◌≡◌, ℕ, ◌^◌, ◌<◌, Bool, false, if◌then◌else◌, not, ◌&&◌, ◌||◌, length, MatchOption, nat_lt, slice_index_or}
 use Rattle.std.specs.List.{slice_get}
 use Rattle.domain.specs.Meaning.{Meaning}
 use Rattle.cards.specs.declared.action.Action.{Action}
@@ -34,7 +34,7 @@ meaning_of c = record {
   goals = length c.goals;
   start = c.start.0;
   runs = can_run c;
-  next = λ s a. cond (can_run c s a) (changed s (action_at c a).deletes.0 (action_at c a).adds.0) s;
+  next = λ s a. if can_run c s a then changed s (action_at c a).deletes.0 (action_at c a).adds.0 else s;
   cost = λ a. (action_at c a).cost;
   marked = λ a. (action_at c a).marked;
   meets = λ s g. is_state c s && (nat_lt g (length c.goals) && within (goal_at c g).0 s);

@@ -1,5 +1,5 @@
 -- What a card means, told in the words of fluents, and its limits.
-use Rattle.std.specs.Prelude.{◌≡◌, ℕ, ◌^◌, ◌<◌, ◌≤◌, not, ◌&&◌, ◌||◌, length, Decides, bit_and, bit_xor, nat_lt}
+use Rattle.std.specs.Prelude.{◌≡◌, ℕ, ◌^◌, ◌<◌, ◌≤◌, ◌↔◌, not, ◌&&◌, ◌||◌, length, IsTrue, bit_and, bit_xor, nat_lt}
 use Rattle.std.proofs.Common.{sym, ap, subst, ◌∙◌, ⊎_elim, arith, lit≤}
 use Rattle.std.proofs.Math.Bool.{or_comm}
 use Rattle.std.proofs.lemmas.Nat.{and_le_l, or_lt, xor_lt}
@@ -14,16 +14,16 @@ use Rattle.fluents.specs.Fluents.{holds, Within, within, changed}
 use Rattle.fluents.proofs.Sets.{holds_or, holds_less, same_set, decides_within}
 
 -- the test that `runs` and `meets` share
-decides_part : (s top k n x : ℕ) → Decides (nat_lt s top && (nat_lt k n && within x s)) ((s < top) × (k < n) × Within x s)
+decides_part : (s top k n x : ℕ) → IsTrue (nat_lt s top && (nat_lt k n && within x s)) ↔ ((s < top) × (k < n) × Within x s)
 decides_part s top k n x =
     Decides-like _ (λ h. (h.0, h.1.0, h.1.1)) (λ h. (h.0, (h.1, h.2)))
     (Decides-and (nat_lt s top) (nat_lt k n && within x s) (Decides-ltb s top) (Decides-and (nat_lt k n) (within x s) (Decides-ltb k n) (decides_within x s)))
 
 module _ (c : Contents) (s : ℕ) where
-  pub decides_runs : (a : ℕ) → Decides ((meaning_of c).runs s a) (Runs c s a)
+  pub decides_runs : (a : ℕ) → IsTrue ((meaning_of c).runs s a) ↔ Runs c s a
   decides_runs a = decides_part s (2 ^ c.fluents) a (length c.actions) (action_at c a).needs.0
 
-  pub decides_meets : (g : ℕ) → Decides ((meaning_of c).meets s g) (Meets c s g)
+  pub decides_meets : (g : ℕ) → IsTrue ((meaning_of c).meets s g) ↔ Meets c s g
   decides_meets g = decides_part s (2 ^ c.fluents) g (length c.goals) (goal_at c g).0
 
   -- what is left without the deleted fluents, and then has the added ones

@@ -1,5 +1,5 @@
 -- The card that a log is compiled into. Entries of the log are counted from 0.
-use Rattle.std.specs.Prelude.{ℕ, zero, suc, ◌+◌, ◌-◌, ◌^◌, Bool, false, cond, List, map, length, ◌==◌, bit_or, nat_lt, slice_index}
+use Rattle.std.specs.Prelude.{ℕ, zero, suc, ◌+◌, ◌-◌, ◌^◌, Bool, false, if◌then◌else◌, List, map, length, ◌==◌, bit_or, nat_lt, slice_index}
 use Rattle.std.specs.List.{range_with_len}
 use Rattle.fluents.specs.SetRecords.{set_of}
 use Rattle.fluents.specs.declared.FluentSet.{FluentSet}
@@ -18,7 +18,7 @@ union a b = set_of (bit_or a.0 b.0)
 
 -- what is left of what an action adds or deletes: all of it, or nothing where the log does not let the action run
 abbrev pub effect : List ℕ → ℕ → Bool → FluentSet → FluentSet
-effect log a marked set = cond (may_run log a marked) set empty_set
+effect log a marked set = if may_run log a marked then set else empty_set
 
 module _ (c : Contents) where
   -- above the card's own fluents there is one for each entry, its mark, which holds once the entry is carried
@@ -32,7 +32,7 @@ module _ (c : Contents) where
 
   -- what has to hold before an entry can be carried: the mark of the entry before it, and nothing for the first
   abbrev pub mark_before : ℕ → FluentSet
-  mark_before entry = cond (entry == 0) empty_set (mark (entry - 1))
+  mark_before entry = if entry == 0 then empty_set else mark (entry - 1)
 
 module _ (c : Contents) (log : List ℕ) where
   -- an action of the card itself; the log has judged the marks, so no action is marked any more
@@ -60,7 +60,7 @@ module _ (c : Contents) (log : List ℕ) where
 
   -- the card's own actions keep their numbers, and the copies follow
   abbrev pub action_of : ℕ → Action
-  action_of a = cond (nat_lt a (length c.actions)) (own_action a) (copy (a - length c.actions))
+  action_of a = if nat_lt a (length c.actions) then own_action a else copy (a - length c.actions)
 
   -- a goal together with the log
   abbrev pub with_log : FluentSet → FluentSet
@@ -68,7 +68,7 @@ module _ (c : Contents) (log : List ℕ) where
 
   -- the card's own goals keep their numbers, and the same goals together with the log follow
   abbrev pub goal_of : ℕ → FluentSet
-  goal_of g = cond (nat_lt g (length c.goals)) (goal_at c g) (with_log (goal_at c (g - length c.goals)))
+  goal_of g = if nat_lt g (length c.goals) then goal_at c g else with_log (goal_at c (g - length c.goals))
 
   abbrev pub compiled : Contents
   compiled = record {

@@ -1,5 +1,5 @@
 -- The questions that are asked of a card and a log, given as bytes, an entry to a byte, in their order.
-use Rattle.std.specs.Prelude.{ℕ, ◌+◌, ◌<◌, ◌≤◌, cond, List, length, Ok, Err, Result, nat_le, slice_index}
+use Rattle.std.specs.Prelude.{ℕ, ◌+◌, ◌<◌, ◌≤◌, if◌then◌else◌, List, length, Ok, Err, Result, nat_le, slice_index}
 use Rattle.domain.specs.declared.fault.LogFault.{LogFault}
 use Rattle.cards.specs.Contents.{Contents}
 use Rattle.logs.specs.Reading.{read_log}
@@ -9,11 +9,13 @@ use Rattle.compile.specs.declared.fault.CompileFault.TheVariants.{Log, Fluents, 
 -- a card takes at most 55 fluents, 120 actions and 32 goals
 abbrev pub fitting : Contents → List ℕ → Result (List ℕ) CompileFault
 fitting c log =
-    cond (nat_le (c.fluents + length log) 55)
-    (cond (nat_le (length c.actions + length log) 120)
-    (cond (nat_le (length c.goals + length c.goals) 32) (Ok log) (Err Goals))
-    (Err Actions))
-    (Err Fluents)
+    if nat_le (c.fluents + length log) 55 then
+    if nat_le (length c.actions + length log) 120 then
+    if nat_le (length c.goals + length c.goals) 32 then
+    Ok log
+    else Err Goals
+    else Err Actions
+    else Err Fluents
 
 -- the log's own questions come first
 abbrev pub then_fitting : Contents → Result (List ℕ) LogFault → Result (List ℕ) CompileFault

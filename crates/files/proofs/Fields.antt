@@ -11,7 +11,7 @@ use Rattle.files.specs.declared.field.Field.TheVariants.{Set, Place, Cost}
 use Rattle.files.specs.Contents.{is_written, bit_map, field_bytes, all_field_bytes, InRange}
 use Rattle.files.specs.Formats.{bytes_of, absent_of, limit_of, bit}
 use Rattle.files.specs.Numbers.{Bytes, little, spelled}
-use Rattle.files.specs.Reading.{position, then, with_first, is_odd, value_at, read_field, read_fields, size_of}
+use Rattle.files.specs.Reading.{position, and_then, with_first, is_odd, value_at, read_field, read_fields, size_of}
 use Rattle.files.proofs.Numerals.{length_spelled, little_spelled, spelled_little}
 use Rattle.files.proofs.Outcomes.{ok_same, passed, then_ok, first_ok}
 use Rattle.files.proofs.ReadSteps.{field_next}
@@ -154,6 +154,6 @@ module _ (bs : List ℕ) (size r : ℕ) where
       let one : read_field bs size r at f (is_odd (bit w + 2 * rest)) ≡ Ok (v, next) = ap (read_field bs size r at f) (bit_odd w rest) ∙ field_written bs size r at f v (all_field_bytes fs vs ++ tail) i.0 n.0 e' in
       let more : read_fields bs size r next ((bit w + 2 * rest) / 2) fs ≡ Ok (vs, (top, next + length (all_field_bytes fs vs))) = ap (λ m. read_fields bs size r next m fs) (bit_rest w rest) ∙ fields_written fs vs next top tail n.1 i.1 (after_bytes bs at (field_bytes f v) (all_field_bytes fs vs ++ tail) e') in
       let end : next + length (all_field_bytes fs vs) ≡ at + length (field_bytes f v ++ all_field_bytes fs vs) = omega (arith, length-append (field_bytes f v) (all_field_bytes fs vs)) in
-      ap (λ q. then q (λ x. with_first x.0 (read_fields bs size r x.1 ((bit w + 2 * rest) / 2) fs))) one
+      ap (λ q. and_then q (λ x. with_first x.0 (read_fields bs size r x.1 ((bit w + 2 * rest) / 2) fs))) one
       ∙ ap (with_first v) more
       ∙ ap (λ m. Ok (v ∷ vs, (top, m))) end

@@ -1,7 +1,7 @@
 -- What an accepted step tells of the steps in it.
 use Rattle.std.proofs.Common.{◌≡◌, ℕ, Bool, true, false, cond, List, ◌∷◌, Ok, Err, Result, refl, arith}
 use Rattle.domain.specs.declared.fault.ReadFault.{ReadFault}
-use Rattle.files.specs.Reading.{then, with_first}
+use Rattle.files.specs.Reading.{and_then, with_first}
 
 pub ok_same : {X : Type 0} (x y : X) → ◌≡◌ {A = Result X ReadFault} (Ok x) (Ok y) → x ≡ y
 ok_same x y e = cc
@@ -14,7 +14,7 @@ pub passed : {X : Type 0} (b : Bool) (r : Result X ReadFault) (f : ReadFault) (y
 passed true r f y e = (refl, e)
 passed false r f y e = ok_or_err y f e
 
-pub then_ok : {X Y : Type 0} (r : Result X ReadFault) (f : X → Result Y ReadFault) (y : Y) → then r f ≡ Ok y → (x : X) × (r ≡ Ok x) × (f x ≡ Ok y)
+pub then_ok : {X Y : Type 0} (r : Result X ReadFault) (f : X → Result Y ReadFault) (y : Y) → and_then r f ≡ Ok y → (x : X) × (r ≡ Ok x) × (f x ≡ Ok y)
 then_ok (Ok x) f y e = (x, refl, e)
 then_ok (Err g) f y e = ok_or_err y g e
 

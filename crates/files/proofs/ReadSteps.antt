@@ -9,7 +9,7 @@ use Rattle.files.specs.declared.kind.Part.{Part}
 use Rattle.files.specs.Contents.{Entry}
 use Rattle.files.specs.Formats.{bytes_of}
 use Rattle.files.proofs.Outcomes.{ok_same, passed}
-use Rattle.files.specs.Reading.{then, with_first, is_odd, read_field, read_fields, size_of, read_record, read_records, part_with, parts_with}
+use Rattle.files.specs.Reading.{and_then, with_first, is_odd, read_field, read_fields, size_of, read_record, read_records, part_with, parts_with}
 
 -- what was read before, and then what is read next
 abbrev pub prefixed : {X Y : Type 0} → List X → Result (List X × Y) ReadFault → Result (List X × Y) ReadFault
@@ -22,11 +22,11 @@ prefixed_more xs x (Err e) = refl
 
 -- a turn that reads x, and one that is refused
 module _ {X Y Z : Type 0} (xs : List X) (r : Result Z ReadFault) (x : Z → X) (rest : Z → Result (List X × Y) ReadFault) where
-  turn_ok : (z : Z) → r ≡ Ok z → prefixed xs (then r (λ z. with_first (x z) (rest z))) ≡ prefixed (xs ++ (x z ∷ [])) (rest z)
-  turn_ok z e = ap (λ r. prefixed xs (then r (λ z. with_first (x z) (rest z)))) e ∙ prefixed_more xs (x z) (rest z)
+  turn_ok : (z : Z) → r ≡ Ok z → prefixed xs (and_then r (λ z. with_first (x z) (rest z))) ≡ prefixed (xs ++ (x z ∷ [])) (rest z)
+  turn_ok z e = ap (λ r. prefixed xs (and_then r (λ z. with_first (x z) (rest z)))) e ∙ prefixed_more xs (x z) (rest z)
 
-  turn_err : (f : ReadFault) → r ≡ Err f → prefixed xs (then r (λ z. with_first (x z) (rest z))) ≡ Err f
-  turn_err f e = ap (λ r. prefixed xs (then r (λ z. with_first (x z) (rest z)))) e
+  turn_err : (f : ReadFault) → r ≡ Err f → prefixed xs (and_then r (λ z. with_first (x z) (rest z))) ≡ Err f
+  turn_err f e = ap (λ r. prefixed xs (and_then r (λ z. with_first (x z) (rest z)))) e
 
 -- The fields of a record, from the i-th on.
 module _ (fs : List Field) (i : ℕ) where
@@ -38,7 +38,7 @@ module _ (fs : List Field) (i : ℕ) where
     abbrev Rest : Result (List ℕ × (ℕ × ℕ)) ReadFault
     Rest = prefixed vs (read_fields bs size r at m (drop i fs))
 
-    fields_more : i < length fs → Rest ≡ prefixed vs (then (read_field bs size r at (get_or fs i Set) (is_odd m)) (λ x. with_first x.0 (read_fields bs size r x.1 (m / 2) (drop (i + 1) fs))))
+    fields_more : i < length fs → Rest ≡ prefixed vs (and_then (read_field bs size r at (get_or fs i Set) (is_odd m)) (λ x. with_first x.0 (read_fields bs size r x.1 (m / 2) (drop (i + 1) fs))))
     fields_more h = ap (prefixed vs) (at_drop_more (read_fields bs size r at m) fs i Set h)
 
     pub fields_ok : (v next : ℕ) → i < length fs → read_field bs size r at (get_or fs i Set) (is_odd m) ≡ Ok (v, next) → Rest ≡ prefixed (vs ++ (v ∷ [])) (read_fields bs size r next (m / 2) (drop (i + 1) fs))
@@ -60,7 +60,7 @@ module _ {X : Type 0} (make : Entry → X) (k : Kind) (p : Part) (size : ℕ) (b
   parts_first e (Ok y) = refl
   parts_first e (Err f) = refl
 
-  parts_then : (r : Result (Entry × ℕ) ReadFault) (rest : ℕ → Result (List Entry × ℕ) ReadFault) → parts_with make (then r (λ x. with_first x.0 (rest x.1))) ≡ then (part_with make r) (λ x. with_first x.0 (parts_with make (rest x.1)))
+  parts_then : (r : Result (Entry × ℕ) ReadFault) (rest : ℕ → Result (List Entry × ℕ) ReadFault) → parts_with make (and_then r (λ x. with_first x.0 (rest x.1))) ≡ and_then (part_with make r) (λ x. with_first x.0 (parts_with make (rest x.1)))
   parts_then (Ok x) rest = parts_first x.0 (rest x.1)
   parts_then (Err f) rest = refl
 
@@ -69,7 +69,7 @@ module _ {X : Type 0} (make : Entry → X) (k : Kind) (p : Part) (size : ℕ) (b
     abbrev RestOf : Result (List X × ℕ) ReadFault
     RestOf = prefixed xs (parts_with make (read_records k p size bs (n - i) r at))
 
-    parts_more : i < n → RestOf ≡ prefixed xs (then (part_with make (read_record k p size bs r at)) (λ x. with_first x.0 (parts_with make (read_records k p size bs (n - (i + 1)) (r + 1) x.1))))
+    parts_more : i < n → RestOf ≡ prefixed xs (and_then (part_with make (read_record k p size bs r at)) (λ x. with_first x.0 (parts_with make (read_records k p size bs (n - (i + 1)) (r + 1) x.1))))
     parts_more h =
         let e : n - i ≡ suc (n - (i + 1)) = omega arith in
         ap (λ m. prefixed xs (parts_with make (read_records k p size bs m r at))) e

@@ -14,7 +14,7 @@ use Rattle.files.specs.declared.kind.Part.TheVariants.{Action, Goal}
 use Rattle.files.specs.Contents.{Entry, is_written, bit_map, all_field_bytes, mark_bit, record_bytes, ValidEntry}
 use Rattle.files.specs.Formats.{most_of, fields_of, is_markable, bit, bit_count}
 use Rattle.files.specs.Numbers.{Bytes}
-use Rattle.files.specs.Reading.{then, with_first, is_odd, read_fields, size_of, as_entry, read_record, read_records}
+use Rattle.files.specs.Reading.{and_then, with_first, is_odd, read_fields, size_of, as_entry, read_record, read_records}
 use Rattle.files.proofs.Fields.{FieldsRead, fields_read, Narrow, size_written, fields_written, after_bytes}
 use Rattle.files.proofs.Outcomes.{ok_same, ok_or_err, passed, then_ok, first_ok}
 
@@ -158,6 +158,6 @@ module _ (bs : List ℕ) (k : Kind) (p : Part) (size : ℕ) (most : size ≤ mos
       let b' : drop at bs ≡ here ++ (rest ++ tail) = b ∙ append_assoc here rest tail in
       let next = at + length here in
       let end : next + length rest ≡ at + length (here ++ rest) = omega (arith, length-append here rest) in
-      ap (λ q. then q (λ x. with_first x.0 (read_records k p size bs (length es) (r + 1) x.1))) (record_written r at e (rest ++ tail) valid.0 b')
+      ap (λ q. and_then q (λ x. with_first x.0 (read_records k p size bs (length es) (r + 1) x.1))) (record_written r at e (rest ++ tail) valid.0 b')
       ∙ ap (with_first e) (records_written (r + 1) next es tail valid.1 (after_bytes bs at here (rest ++ tail) b'))
       ∙ ap (λ n. Ok (e ∷ es, n)) end

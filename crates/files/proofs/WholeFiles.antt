@@ -12,7 +12,7 @@ use Rattle.files.specs.Contents.{RawFile, record_bytes, file_bytes, ValidFile}
 use Rattle.files.specs.Exact.{ReadExactly}
 use Rattle.files.specs.Formats.{bytes_of, limit_of, letter_of, most_of, start_of, header_length}
 use Rattle.files.specs.Numbers.{Bytes, spelled}
-use Rattle.files.specs.Reading.{then, value_at, read_records, is_count, read_header, read_end, read_body, read_file}
+use Rattle.files.specs.Reading.{and_then, value_at, read_records, is_count, read_header, read_end, read_body, read_file}
 use Rattle.files.proofs.Fields.{value_read, value_written, after_bytes}
 use Rattle.files.proofs.Numerals.{length_spelled}
 use Rattle.files.proofs.Outcomes.{ok_same, passed, then_ok}
@@ -155,9 +155,9 @@ module _ (k : Kind) (f : RawFile) (valid : ValidFile k f) where
       let begin : drop from bs ≡ xs ++ ys = ap (λ n. drop (4 + n) bs) (sym (length_spelled (bytes_of (start_of k)) f.start)) ∙ after_bytes bs 4 (spelled (bytes_of (start_of k)) f.start) (xs ++ ys) refl in
       let middle : drop (from + length xs) bs ≡ ys ++ [] = after_bytes bs from xs ys begin ∙ sym (append-nil ys) in
       let end : from + length xs + length ys ≡ length bs = omega (arith, length-append (spelled (bytes_of (start_of k)) f.start) (xs ++ ys), length_spelled (bytes_of (start_of k)) f.start, length-append xs ys) in
-      ap (λ r. then r (read_body k bs)) header_written
-      ∙ ap (λ r. then r (λ x. then (read_records k Goal f.size bs (length f.goals) (1 + length f.actions) x.1) (λ y. read_end bs h x.0 y.0 y.1))) (records_written bs k Action f.size valid.size_high 1 from f.actions ys valid.actions_valid begin)
-      ∙ ap (λ r. then r (λ y. read_end bs h f.actions y.0 y.1)) (records_written bs k Goal f.size valid.size_high (1 + length f.actions) (from + length xs) f.goals [] valid.goals_valid middle)
+      ap (λ r. and_then r (read_body k bs)) header_written
+      ∙ ap (λ r. and_then r (λ x. and_then (read_records k Goal f.size bs (length f.goals) (1 + length f.actions) x.1) (λ y. read_end bs h x.0 y.0 y.1))) (records_written bs k Action f.size valid.size_high 1 from f.actions ys valid.actions_valid begin)
+      ∙ ap (λ r. and_then r (λ y. read_end bs h f.actions y.0 y.1)) (records_written bs k Goal f.size valid.size_high (1 + length f.actions) (from + length xs) f.goals [] valid.goals_valid middle)
       ∙ cond-true _ _ _ (eq-eqb (from + length xs + length ys) (length bs) end)
 
 pub read_exactly : (k : Kind) (bs : List ℕ) → Bytes bs → ReadExactly k bs

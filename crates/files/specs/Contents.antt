@@ -1,5 +1,5 @@
 -- What a file holds, and the bytes that it is written as.
-use Rattle.std.specs.Prelude.{◌≡◌, ℕ, ◌+◌, ◌*◌, ◌<◌, ◌≤◌, Bool, cond, not, ◌&&◌, List, [], ◌∷◌, ◌++◌, length, drop, ◌==◌, nat_lt, slice_index}
+use Rattle.std.specs.Prelude.{◌≡◌, ℕ, ◌+◌, ◌*◌, ◌<◌, ◌≤◌, Bool, if◌then◌else◌, not, ◌&&◌, List, [], ◌∷◌, ◌++◌, length, drop, ◌==◌, nat_lt, slice_index}
 use Rattle.std.specs.List.{flat_map, AllByRecursion}
 use Rattle.files.specs.declared.field.Field.{Field}
 use Rattle.files.specs.declared.kind.Kind.{Kind}
@@ -40,7 +40,7 @@ bit_map [] vs top = top
 bit_map (f ∷ fs) vs top = bit (is_written f (slice_index vs 0)) + 2 * bit_map fs (drop 1 vs) top
 
 abbrev pub field_bytes : Field → ℕ → List ℕ
-field_bytes f v = cond (is_written f v) (spelled (bytes_of f) v) []
+field_bytes f v = if is_written f v then spelled (bytes_of f) v else []
 
 abbrev pub all_field_bytes : List Field → List ℕ → List ℕ
 all_field_bytes [] vs = []

@@ -1,5 +1,5 @@
 -- Writing a file into a place.
-use Rattle.std.specs.Prelude.{◌≡◌, ℕ, ◌+◌, cond, List, ◌++◌, map, length, drop, Ok, Err, Result, nat_le}
+use Rattle.std.specs.Prelude.{◌≡◌, ℕ, ◌+◌, if◌then◌else◌, List, ◌++◌, map, length, drop, Ok, Err, Result, nat_le}
 use Rattle.domain.specs.declared.fault.WriteFault.{WriteFault}
 use Rattle.domain.specs.declared.fault.WriteFault.TheVariants.{Place}
 use Rattle.std.specs.List.{flat_map}
@@ -11,11 +11,11 @@ use Rattle.files.specs.Formats.{header_length}
 
 -- the answer: how many bytes were written, or that the place is too short
 abbrev pub write_outcome : List ℕ → List ℕ → Result ℕ WriteFault
-write_outcome bytes place = cond (nat_le (length bytes) (length place)) (Ok (length bytes)) (Err Place)
+write_outcome bytes place = if nat_le (length bytes) (length place) then Ok (length bytes) else Err Place
 
 -- the place afterwards: the bytes and then its rest, or as it was
 abbrev pub place_after : List ℕ → List ℕ → List ℕ
-place_after bytes place = cond (nat_le (length bytes) (length place)) (bytes ++ drop (length bytes) place) place
+place_after bytes place = if nat_le (length bytes) (length place) then bytes ++ drop (length bytes) place else place
 
 -- bytes stand in the front of a place, and what is behind them is as it was
 pub record Wrote (bytes before after : List ℕ) (count : ℕ) : Type 0 where

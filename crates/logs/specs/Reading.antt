@@ -1,5 +1,5 @@
 -- Reading a log from bytes, an entry to a byte: the questions in order.
-use Rattle.std.specs.Prelude.{ℕ, Bool, true, cond, ◌&&◌, List, [], ◌∷◌, length, Ok, Err, Result, nat_le, nat_lt}
+use Rattle.std.specs.Prelude.{ℕ, Bool, true, if◌then◌else◌, ◌&&◌, List, [], ◌∷◌, length, Ok, Err, Result, nat_le, nat_lt}
 use Rattle.domain.specs.declared.fault.LogFault.{LogFault}
 use Rattle.domain.specs.declared.fault.LogFault.TheVariants.{Action, Full}
 use Rattle.logs.specs.declared.log.ObservationLog.{ObservationLog}
@@ -12,7 +12,12 @@ all_below actions (a ∷ rest) = nat_lt a actions && all_below actions rest
 
 -- at most 20 entries, and each is an action
 abbrev pub read_log : List ℕ → ℕ → Result (List ℕ) LogFault
-read_log bytes actions = cond (nat_le (length bytes) 20) (cond (all_below actions bytes) (Ok bytes) (Err Action)) (Err Full)
+read_log bytes actions =
+    if nat_le (length bytes) 20 then
+    if all_below actions bytes then
+    Ok bytes
+    else Err Action
+    else Err Full
 
 -- what a call that reads a log hands back
 abbrev pub outcome : Result ObservationLog LogFault → Result (List ℕ) LogFault

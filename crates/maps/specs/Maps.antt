@@ -1,5 +1,5 @@
 -- What a field map means as a planning domain, and the same in the words of places.
-use Rattle.std.specs.Prelude.{◌≡◌, ℕ, ◌^◌, ◌<◌, Bool, false, cond, ◌&&◌, length, MatchOption, ◌==◌, nat_lt, slice_index_or}
+use Rattle.std.specs.Prelude.{◌≡◌, ℕ, ◌^◌, ◌<◌, Bool, false, if◌then◌else◌, ◌&&◌, length, MatchOption, ◌==◌, nat_lt, slice_index_or}
 use Rattle.std.specs.List.{slice_get}
 use Rattle.domain.specs.Meaning.{Meaning}
 use Rattle.maps.specs.Contents.{Contents}
@@ -31,7 +31,7 @@ meaning_of c = record {
   goals = length c.goals;
   start = c.start.0;
   runs = can_run c;
-  next = λ s a. cond (can_run c s a) (move_at c a).to.0 s;
+  next = λ s a. if can_run c s a then (move_at c a).to.0 else s;
   cost = λ a. (move_at c a).cost;
   marked = λ a. (move_at c a).marked;
   meets = λ s g. nat_lt g (length c.goals) && (s == (goal_at c g).0);

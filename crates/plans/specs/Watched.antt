@@ -1,14 +1,14 @@
 -- A domain with a log: a state tells how many of the log's entries were carried on the way to it.
-use Rattle.std.specs.Prelude.{ℕ, ◌+◌, ◌*◌, ◌/◌, ◌%◌, ◌^◌, Bool, false, cond, ◌&&◌, List, [], length, ◌==◌, nat_le, nat_lt}
+use Rattle.std.specs.Prelude.{ℕ, ◌+◌, ◌*◌, ◌/◌, ◌%◌, ◌^◌, Bool, false, if◌then◌else◌, ◌&&◌, List, [], length, ◌==◌, nat_le, nat_lt}
 use Rattle.domain.specs.Meaning.{Meaning}
 use Rattle.plans.specs.Counting.{may_run, advance}
 
 -- a count of entries takes five bits, so a domain that is wider than 55 has no room for one, and its log stays empty
 abbrev pub extra_bits : Meaning → ℕ
-extra_bits d = cond (nat_le d.width 55) 5 0
+extra_bits d = if nat_le d.width 55 then 5 else 0
 
 abbrev pub log_over : Meaning → List ℕ → List ℕ
-log_over d log = cond (nat_le d.width 55) log []
+log_over d log = if nat_le d.width 55 then log else []
 
 -- a watched state is the state below and, above its bits, the count
 abbrev pub below : Meaning → ℕ → ℕ
@@ -35,7 +35,7 @@ module _ (d : Meaning) (log : List ℕ) where
     goals = d.goals;
     start = d.start;
     runs = can_run;
-    next = λ x a. cond (can_run x a) (joined_state d (d.next (below d x) a) (advance log (count d x) a)) x;
+    next = λ x a. if can_run x a then joined_state d (d.next (below d x) a) (advance log (count d x) a) else x;
     cost = d.cost;
     marked = λ _. false;
     meets = λ x g. is_state x && d.meets (below d x) g;
