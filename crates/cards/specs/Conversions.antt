@@ -1,12 +1,13 @@
 -- A card's records and what they stand for are made of each other, and its limits are those of its file.
-use Rattle.std.proofs.Common.{◌≡◌, ℕ, ◌<◌, min, Bool, List, [], ◌∷◌, refl, ap, arith}
+use Rattle.std.proofs.Common.{◌≡◌, ◌↔◌, ℕ, ◌<◌, min, Bool, List, [], ◌∷◌, refl, ap, arith}
 use native.Mathlib.Nat.{min-eq_left}
 use Rattle.std.proofs.lemmas.List.Elements.{All-from_recursion, recursion_from_All}
 use Rattle.files.specs.declared.kind.Kind.TheVariants as kind
 use Rattle.files.specs.declared.kind.Part.TheVariants as part
-use Rattle.files.specs.Contents.{ValidEntry}
+use Rattle.files.specs.Contents.{File, ValidEntry}
+use Rattle.fluents.specs.declared.FluentSet.{FluentSet}
 use Rattle.fluents.specs.SetRecords.{set_entry, entry_set}
-use Rattle.formats.specs.Conversions.{Converts, SameLimits}
+use Rattle.files.proofs.Typed.{Converts, ValidParts}
 use Rattle.cards.specs.declared.action.Action.{Action}
 use Rattle.cards.specs.ActionRecords.{action_entry, entry_action}
 use Rattle.cards.specs.Limits.{Among, ActionAmong, InLimits, card_of}
@@ -43,20 +44,9 @@ converts = record {
   goal_written = λ n _ set h. (((h, tt), refl), refl);
 }
 
-pub same_limits : SameLimits kind.Card entry_action action_entry entry_set set_entry ActionAmong Among (λ f. InLimits (card_of f))
-same_limits = record {
-  read = λ f v. record {
-    fluents_low = v.size_low;
-    fluents_high = v.size_high;
-    actions_low = v.actions_low;
-    actions_high = v.actions_high;
-    goals_low = v.goals_low;
-    goals_high = v.goals_high;
-    start_among = v.start_in;
-    actions_among = All-from_recursion (ActionAmong f.size) f.actions v.actions_good;
-    goals_among = All-from_recursion (Among f.size) f.goals v.goals_good;
-  };
-  written = λ f l. record {
+pub same_limits : (f : File Action FluentSet) → InLimits (card_of f) ↔ ValidParts kind.Card entry_action action_entry entry_set set_entry ActionAmong Among f
+same_limits f = (
+  λ l. record {
     size_low = l.fluents_low;
     size_high = l.fluents_high;
     actions_low = l.actions_low;
@@ -66,5 +56,16 @@ same_limits = record {
     start_in = l.start_among;
     actions_good = recursion_from_All (ActionAmong f.size) f.actions l.actions_among;
     goals_good = recursion_from_All (Among f.size) f.goals l.goals_among;
-  };
-}
+  },
+  λ v. record {
+    fluents_low = v.size_low;
+    fluents_high = v.size_high;
+    actions_low = v.actions_low;
+    actions_high = v.actions_high;
+    goals_low = v.goals_low;
+    goals_high = v.goals_high;
+    start_among = v.start_in;
+    actions_among = All-from_recursion (ActionAmong f.size) f.actions v.actions_good;
+    goals_among = All-from_recursion (Among f.size) f.goals v.goals_good;
+  },
+)

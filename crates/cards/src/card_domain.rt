@@ -46,8 +46,9 @@ impl Domain for Card {
         ensures value { result ≡ (meaning_of (contents self.now)).runs state action }
         ensures fluents { IsTrue result ↔ Runs (contents self.now) state action }
     {
-        self.parts.action(action).is_some_and(|a| self.is_state(state)
-            && a.needs.within(FluentSet::from(state)))
+        let s = FluentSet::from(state);
+        let action = self.parts.action(action);
+        action.is_some_and(|a| self.is_state(state) && a.needs.within(s))
     }
 
     fn next(&self, state: u64, action: u8) -> u64
@@ -82,8 +83,9 @@ impl Domain for Card {
         ensures value { result ≡ (meaning_of (contents self.now)).meets state goal }
         ensures fluents { IsTrue result ↔ Meets (contents self.now) state goal }
     {
-        self.parts.goal(goal).is_some_and(|set| self.is_state(state)
-            && set.within(FluentSet::from(state)))
+        let s = FluentSet::from(state);
+        let goal = self.parts.goal(goal);
+        goal.is_some_and(|set| self.is_state(state) && set.within(s))
     }
 
     fn complete(&self, state: u64) -> bool

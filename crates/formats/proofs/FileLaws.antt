@@ -1,23 +1,22 @@
 -- Reading and writing the parts of a domain are inverse to each other.
-use Rattle.std.proofs.Common.{◌≡◌, ℕ, List, Ok, Err, Result, sym, refl, ap, ◌∙◌, subst}
+use Rattle.std.proofs.Common.{◌≡◌, ◌↔◌, ℕ, List, Ok, Err, Result, sym, refl, ap, ◌∙◌, subst}
 use Rattle.domain.specs.declared.fault.ReadFault.{ReadFault}
 use Rattle.files.specs.declared.kind.Kind.{Kind}
 use Rattle.files.specs.Contents.{Entry, File}
 use Rattle.files.specs.Exact as files
 use Rattle.files.proofs.Outcomes.{ok_same, ok_or_err}
-use Rattle.files.proofs.Typed.{parts_read, parts_written}
-use Rattle.formats.specs.Conversions.{Converts, SameLimits}
+use Rattle.files.proofs.Typed.{Converts, ValidParts, parts_read, parts_written}
 use Rattle.formats.specs.Files.{parts_file, read_parts, known_as, ReadExactly}
 
-module _ {S G : Type 0} {k : Kind} {make_s : Entry → S} {entry_s : S → Entry} {make_g : Entry → G} {entry_g : G → Entry} {GoodS : ℕ → S → Type 0} {GoodG : ℕ → G → Type 0} {Limits : File S G → Type 0} (converts : Converts k make_s entry_s make_g entry_g GoodS GoodG) (same : SameLimits k make_s entry_s make_g entry_g GoodS GoodG Limits) where
+module _ {S G : Type 0} {k : Kind} {make_s : Entry → S} {entry_s : S → Entry} {make_g : Entry → G} {entry_g : G → Entry} {GoodS : ℕ → S → Type 0} {GoodG : ℕ → G → Type 0} {Limits : File S G → Type 0} (converts : Converts k make_s entry_s make_g entry_g GoodS GoodG) (same : (f : File S G) → Limits f ↔ ValidParts k make_s entry_s make_g entry_g GoodS GoodG f) where
   -- parts that are written are read again
   pub parts_again : (f : File S G) → Limits f → read_parts k make_s make_g (parts_file k entry_s entry_g f) ≡ Ok f
-  parts_again f l = parts_written k make_s entry_s make_g entry_g GoodS GoodG converts f (same.written f l)
+  parts_again f l = parts_written k make_s entry_s make_g entry_g GoodS GoodG converts f ((same f).0 l)
 
   -- j is the kind that was asked for
   pub parts_exactly : (j : Kind) → j ≡ k → (bs : List ℕ) → files.ReadExactly j bs → ReadExactly (read_parts k make_s make_g) (parts_file k entry_s entry_g) Limits bs
   parts_exactly j is bs exact = record {
-    only = λ f e. let p = parts_read k make_s entry_s make_g entry_g GoodS GoodG converts bs (subst (λ k. files.ReadExactly k bs) is exact) f e in (same.read f p.0, p.1);
+    only = λ f e. let p = parts_read k make_s entry_s make_g entry_g GoodS GoodG converts bs (subst (λ k. files.ReadExactly k bs) is exact) f e in ((same f).1 p.0, p.1);
     every = λ f l e. ap (read_parts k make_s make_g) e ∙ parts_again f l;
   }
 

@@ -1,3 +1,1 @@
--- to be read in this order
-pub mod Conversions
 pub mod Files

@@ -1,12 +1,13 @@
 -- A map's records and what they stand for are made of each other, and its limits are those of its file.
-use Rattle.std.proofs.Common.{◌≡◌, ℕ, ◌<◌, ◌≤◌, min, Bool, false, List, [], ◌∷◌, refl, ap, ◌∙◌, arith}
+use Rattle.std.proofs.Common.{◌≡◌, ◌↔◌, ℕ, ◌<◌, ◌≤◌, min, Bool, false, List, [], ◌∷◌, refl, ap, ◌∙◌, arith}
 use native.Mathlib.Nat.{min-eq_left}
 use Rattle.std.proofs.lemmas.List.Elements.{All-from_recursion, recursion_from_All}
 use Rattle.files.specs.declared.kind.Kind.TheVariants as kind
 use Rattle.files.specs.declared.kind.Part.TheVariants as part
-use Rattle.files.specs.Contents.{ValidEntry}
-use Rattle.formats.specs.Conversions.{Converts, SameLimits}
+use Rattle.files.specs.Contents.{File, ValidEntry}
+use Rattle.files.proofs.Typed.{Converts, ValidParts}
 use Rattle.maps.specs.declared.moves.Move.{Move}
+use Rattle.maps.specs.declared.place.Place.{Place}
 use Rattle.maps.specs.Limits.{Among, MoveAmong, InLimits, map_of}
 use Rattle.maps.specs.MapRecords.{move_entry, entry_move, goal_entry, entry_goal}
 
@@ -56,20 +57,9 @@ converts = record {
   goal_written = λ n h place l. (((l, tt), refl), ap (λ x. record { 0 = x }) (small n place.0 h l));
 }
 
-pub same_limits : SameLimits kind.Map entry_move move_entry entry_goal goal_entry MoveAmong Among (λ f. InLimits (map_of f))
-same_limits = record {
-  read = λ f v. record {
-    places_low = v.size_low;
-    places_high = v.size_high;
-    moves_low = v.actions_low;
-    moves_high = v.actions_high;
-    goals_low = v.goals_low;
-    goals_high = v.goals_high;
-    start_among = v.start_in;
-    moves_among = All-from_recursion (MoveAmong f.size) f.actions v.actions_good;
-    goals_among = All-from_recursion (Among f.size) f.goals v.goals_good;
-  };
-  written = λ f l. record {
+pub same_limits : (f : File Move Place) → InLimits (map_of f) ↔ ValidParts kind.Map entry_move move_entry entry_goal goal_entry MoveAmong Among f
+same_limits f = (
+  λ l. record {
     size_low = l.places_low;
     size_high = l.places_high;
     actions_low = l.moves_low;
@@ -79,5 +69,16 @@ same_limits = record {
     start_in = l.start_among;
     actions_good = recursion_from_All (MoveAmong f.size) f.actions l.moves_among;
     goals_good = recursion_from_All (Among f.size) f.goals l.goals_among;
-  };
-}
+  },
+  λ v. record {
+    places_low = v.size_low;
+    places_high = v.size_high;
+    moves_low = v.actions_low;
+    moves_high = v.actions_high;
+    goals_low = v.goals_low;
+    goals_high = v.goals_high;
+    start_among = v.start_in;
+    moves_among = All-from_recursion (MoveAmong f.size) f.actions v.actions_good;
+    goals_among = All-from_recursion (Among f.size) f.goals v.goals_good;
+  },
+)
