@@ -10,13 +10,16 @@ use Rattle.search.specs.Ways.{Follows, Way, KnownAt, Closed, OneEach}
 module _ (m : Meaning) (f g : ℕ → Node) (n w n' w' : ℕ) (grew : Grew f n w g n' w') where
   follows_over : (v : Node) → Follows m f n v → Follows m g n' v
   follows_over v x =
-      let same : g v.from ≡ f v.from = grew.settled v.from x.from x.settled in
+      let step = x.step in
+      let same : g step.from ≡ f step.from = grew.settled step.from x.from x.settled in
       record {
+        step = step;
+        last = x.last;
         from = omega (arith, x.from, grew.more);
         settled = ap (λ y. y.settled) same ∙ x.settled;
-        runs = ap (λ y. m.runs y.state v.action) same ∙ x.runs;
-        next = ap (λ y. m.next y.state v.action) same ∙ x.next;
-        cost = x.cost ∙ sym (ap (λ y. y.cost + m.cost v.action) same);
+        runs = ap (λ y. m.runs y.state step.action) same ∙ x.runs;
+        next = ap (λ y. m.next y.state step.action) same ∙ x.next;
+        cost = x.cost ∙ sym (ap (λ y. y.cost + m.cost step.action) same);
         steps = x.steps ∙ sym (ap (λ y. y.steps + 1) same);
       }
 
@@ -129,16 +132,19 @@ module _ (f g : ℕ → Node) (p : ℕ) (v : Node) (here : g p ≡ v) (others : 
     }
 
   -- one of the cheapest that wait is settled
-  module _ (m : Meaning) (n w w' level : ℕ) (low : p < n) (waits : (f p).settled ≡ false) (is : v ≡ record { state = (f p).state; cost = (f p).cost; steps = (f p).steps; from = (f p).from; action = (f p).action; settled = true }) (fewer : w' + 1 ≡ w) (least : (k : ℕ) → k < n → (f k).settled ≡ false → (f p).cost ≤ (f k).cost) (sound : Sound m f n w level) where
+  module _ (m : Meaning) (n w w' level : ℕ) (low : p < n) (waits : (f p).settled ≡ false) (is : v ≡ record { state = (f p).state; cost = (f p).cost; steps = (f p).steps; last = (f p).last; settled = true }) (fewer : w' + 1 ≡ w) (least : (k : ℕ) → k < n → (f k).settled ≡ false → (f p).cost ≤ (f k).cost) (sound : Sound m f n w level) where
     follows_settled : (x : Node) → Follows m f n x → Follows m g n x
     follows_settled x y =
-        let same : g x.from ≡ f x.from = others x.from (λ at. true≢false (sym y.settled ∙ ap (λ r. (f r).settled) at ∙ waits)) in
+        let step = y.step in
+        let same : g step.from ≡ f step.from = others step.from (λ at. true≢false (sym y.settled ∙ ap (λ r. (f r).settled) at ∙ waits)) in
         record {
+          step = step;
+          last = y.last;
           from = y.from;
           settled = ap (λ z. z.settled) same ∙ y.settled;
-          runs = ap (λ z. m.runs z.state x.action) same ∙ y.runs;
-          next = ap (λ z. m.next z.state x.action) same ∙ y.next;
-          cost = y.cost ∙ sym (ap (λ z. z.cost + m.cost x.action) same);
+          runs = ap (λ z. m.runs z.state step.action) same ∙ y.runs;
+          next = ap (λ z. m.next z.state step.action) same ∙ y.next;
+          cost = y.cost ∙ sym (ap (λ z. z.cost + m.cost step.action) same);
           steps = y.steps ∙ sym (ap (λ z. z.steps + 1) same);
         }
 
@@ -146,10 +152,10 @@ module _ (f g : ℕ → Node) (p : ℕ) (v : Node) (here : g p ≡ v) (others : 
     way_settled x = ⊎_elim inl (λ y. inr (follows_settled x y))
 
     -- a settled node has the way that it had when it waited
-    own_way : Way m g n (record { state = (f p).state; cost = (f p).cost; steps = (f p).steps; from = (f p).from; action = (f p).action; settled = true })
+    own_way : Way m g n (record { state = (f p).state; cost = (f p).cost; steps = (f p).steps; last = (f p).last; settled = true })
     own_way = ⊎_elim
-        (λ b. inl (record { state = b.state; cost = b.cost; steps = b.steps }))
-        (λ y. let z = follows_settled (f p) y in inr (record { from = z.from; settled = z.settled; runs = z.runs; next = z.next; cost = z.cost; steps = z.steps }))
+        (λ b. inl (record { state = b.state; cost = b.cost; steps = b.steps; last = b.last }))
+        (λ y. let z = follows_settled (f p) y in inr (record { step = z.step; last = z.last; from = z.from; settled = z.settled; runs = z.runs; next = z.next; cost = z.cost; steps = z.steps }))
         (sound.ways p low)
 
     known_settled : (s c : ℕ) → KnownAt f n s c → KnownAt g n s c

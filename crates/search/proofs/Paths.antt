@@ -23,11 +23,11 @@ module _ (m : Meaning) where
 
 module _ (m : Meaning) (nodes : ℕ → Node) (n : ℕ) where
   -- one action on
-  pub path_on : (v : Node) (plan : List ℕ) → Follows m nodes n v → PathTo m (nodes v.from) plan → PathTo m v (plan ++ v.action ∷ [])
+  pub path_on : (v : Node) (plan : List ℕ) (f : Follows m nodes n v) → PathTo m (nodes f.step.from) plan → PathTo m v (plan ++ f.step.action ∷ [])
   path_on v plan f p = record {
-    runs = runs_append m plan (v.action ∷ []) m.start p.runs (ap (λ s. m.runs s v.action) p.state ∙ f.runs, tt);
-    state = after_append m plan (v.action ∷ []) m.start ∙ ap (λ s. m.next s v.action) p.state ∙ f.next;
-    cost = cost_append m plan (v.action ∷ []) ∙ ap (λ c. c + (m.cost v.action + 0)) p.cost ∙ ap (λ c. (nodes v.from).cost + c) (add-zero (m.cost v.action)) ∙ sym f.cost;
+    runs = runs_append m plan (f.step.action ∷ []) m.start p.runs (ap (λ s. m.runs s f.step.action) p.state ∙ f.runs, tt);
+    state = after_append m plan (f.step.action ∷ []) m.start ∙ ap (λ s. m.next s f.step.action) p.state ∙ f.next;
+    cost = cost_append m plan (f.step.action ∷ []) ∙ ap (λ c. c + (m.cost f.step.action + 0)) p.cost ∙ ap (λ c. (nodes f.step.from).cost + c) (add-zero (m.cost f.step.action)) ∙ sym f.cost;
   }
 
   path_begins : (v : Node) → Begins m v → PathTo m v []
@@ -39,7 +39,7 @@ module _ (m : Meaning) (nodes : ℕ → Node) (n : ℕ) where
   path_by ways (suc k) i h l =
       ⊎_elim
       (λ b. ([], path_begins (nodes i) b))
-      (λ f. let before = path_by ways k (nodes i).from f.from (omega (arith, f.steps)) in (before.0 ++ (nodes i).action ∷ [], path_on (nodes i) before.0 f before.1))
+      (λ f. let before = path_by ways k f.step.from f.from (omega (arith, f.steps)) in (before.0 ++ f.step.action ∷ [], path_on (nodes i) before.0 f before.1))
       (ways i h)
 
   pub path_to : ((i : ℕ) → i < n → Way m nodes n (nodes i)) → (i : ℕ) → i < n → (plan : List ℕ) × PathTo m (nodes i) plan

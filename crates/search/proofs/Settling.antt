@@ -1,5 +1,5 @@
 -- A cheapest state that waits is settled, and what its actions lead to is offered.
-use Rattle.std.proofs.Common.{◌≡◌, ℕ, ◌+◌, ◌-◌, ◌*◌, ◌<◌, ◌≤◌, true, false, List, ◌∷◌, length, take, None, sym, refl, ap, ◌∙◌, subst, ⊎_elim, arith}
+use Rattle.std.proofs.Common.{◌≡◌, ℕ, ◌+◌, ◌-◌, ◌*◌, ◌<◌, ◌≤◌, true, false, List, ◌∷◌, length, take, Some, None, sym, refl, ap, ◌∙◌, subst, ⊎_elim, arith}
 use Rattle.std.specs.List.Sorted.{IsPermutation}
 use Rattle.std.specs.List.{AllByRecursion}
 use Rattle.std.proofs.ByRecursion.{all-has, all_shuffled}
@@ -9,6 +9,7 @@ use Rattle.heap.specs.Taking.{Taken, TracksTaken}
 use Rattle.plans.specs.Reachable.{MoreThan}
 use Rattle.table.specs.declared.row.Node.{Node}
 use Rattle.table.specs.declared.row.Row.{Row}
+use Rattle.table.specs.declared.row.Step.{Step}
 use Rattle.table.specs.Index.{Found, Put}
 use Rattle.table.specs.Rows.{node}
 use Rattle.table.proofs.Chains.{put_indexed}
@@ -94,18 +95,20 @@ module _ (m : Meaning) (limits : Limits m) (before : List Row) (n w i : ℕ) (lo
     runs_if : (m.next (node before i).state a ≡ (node before i).state → ⊥) → m.runs (node before i).state a ≡ true
     runs_if away = ⊎_elim (λ e. e) (λ e. absurd (away (limits.next_same (node before i).state a e))) (cases_Bool (m.runs (node before i).state a))
 
-    module _ (v : Node) (state : v.state ≡ m.next (node before i).state a) (cost : v.cost ≡ (node before i).cost + m.cost a) (steps : v.steps ≡ (node before i).steps + 1) (from : v.from ≡ i) (action : v.action ≡ a) (unsettled : v.settled ≡ false) (away : v.state ≡ (node before i).state → ⊥) where
-      source : node rows v.from ≡ node before i
+    module _ (v : Node) (step : Step) (last : v.last ≡ Some step) (state : v.state ≡ m.next (node before i).state a) (cost : v.cost ≡ (node before i).cost + m.cost a) (steps : v.steps ≡ (node before i).steps + 1) (from : step.from ≡ i) (action : step.action ≡ a) (unsettled : v.settled ≡ false) (away : v.state ≡ (node before i).state → ⊥) where
+      source : node rows step.from ≡ node before i
       source = ap (node rows) from ∙ still
 
       pub offers : Offered m (node rows) n' w' (node before i).cost v
       offers = record {
         follows = record {
+          step = step;
+          last = last;
           from = omega (arith, from, row_low);
           settled = ap (λ x. x.settled) source ∙ settled;
-          runs = ap (λ x. m.runs x.state v.action) source ∙ ap (m.runs (node before i).state) action ∙ runs_if (λ e. away (state ∙ e));
-          next = ap (λ x. m.next x.state v.action) source ∙ ap (m.next (node before i).state) action ∙ sym state;
-          cost = cost ∙ ap (λ b. (node before i).cost + m.cost b) (sym action) ∙ sym (ap (λ x. x.cost + m.cost v.action) source);
+          runs = ap (λ x. m.runs x.state step.action) source ∙ ap (m.runs (node before i).state) action ∙ runs_if (λ e. away (state ∙ e));
+          next = ap (λ x. m.next x.state step.action) source ∙ ap (m.next (node before i).state) action ∙ sym state;
+          cost = cost ∙ ap (λ b. (node before i).cost + m.cost b) (sym action) ∙ sym (ap (λ x. x.cost + m.cost step.action) source);
           steps = steps ∙ sym (ap (λ x. x.steps + 1) source);
         };
         unsettled = unsettled;
@@ -130,7 +133,7 @@ module _ (m : Meaning) (limits : Limits m) (before : List Row) (n w i : ℕ) (lo
       expand_full full absent =
           let follows = offers.follows in
           let ways = so.searching.sound.ways in
-          let path = path_to m (node rows) n' ways v.from follows.from in
+          let path = path_to m (node rows) n' ways follows.step.from follows.from in
           let on = path_on m (node rows) n' v path.0 follows path.1 in
           subst (MoreThan m) (full ∙ so.same_length) (more_than m (node rows) n' ways so.searching.sound.one_each v.state (_, (on.runs, on.state)) absent)
 

@@ -76,7 +76,7 @@ pub record Reached (m : Meaning) (level : ℕ) (before : List Row) (n w : ℕ) (
 
 -- a node that waited, now settled
 abbrev pub as_settled : Node → Node
-as_settled v = record { state = v.state; cost = v.cost; steps = v.steps; from = v.from; action = v.action; settled = true }
+as_settled v = record { state = v.state; cost = v.cost; steps = v.steps; last = v.last; settled = true }
 
 -- one of the cheapest rows that waited is settled
 pub record Settled (m : Meaning) (before : List Row) (n w i : ℕ) (after : List Row) (list : List Entry) (w' : ℕ) : Type 0 where

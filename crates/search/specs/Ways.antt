@@ -1,22 +1,26 @@
 -- What the nodes of a table, by their rows, say of the ways to their states.
-use Rattle.std.specs.Prelude.{◌≡◌, ℕ, ◌+◌, ◌<◌, ◌≤◌, true, ◌⊎◌}
+use Rattle.std.specs.Prelude.{◌≡◌, ℕ, ◌+◌, ◌<◌, ◌≤◌, true, Some, None, ◌⊎◌}
 use Rattle.domain.specs.Meaning.{Meaning}
 use Rattle.table.specs.declared.row.Node.{Node}
+use Rattle.table.specs.declared.row.Step.{Step}
 
 -- the start, where nothing was done
 pub record Begins (m : Meaning) (v : Node) : Type 0 where
   pub state : v.state ≡ m.start
   pub cost : v.cost ≡ 0
   pub steps : v.steps ≡ 0
+  pub last : v.last ≡ None
 
 -- one action on from a settled row
 pub record Follows (m : Meaning) (nodes : ℕ → Node) (n : ℕ) (v : Node) : Type 0 where
-  pub from : v.from < n
-  pub settled : (nodes v.from).settled ≡ true
-  pub runs : m.runs (nodes v.from).state v.action ≡ true
-  pub next : m.next (nodes v.from).state v.action ≡ v.state
-  pub cost : v.cost ≡ (nodes v.from).cost + m.cost v.action
-  pub steps : v.steps ≡ (nodes v.from).steps + 1
+  pub step : Step
+  pub last : v.last ≡ Some step
+  pub from : step.from < n
+  pub settled : (nodes step.from).settled ≡ true
+  pub runs : m.runs (nodes step.from).state step.action ≡ true
+  pub next : m.next (nodes step.from).state step.action ≡ v.state
+  pub cost : v.cost ≡ (nodes step.from).cost + m.cost step.action
+  pub steps : v.steps ≡ (nodes step.from).steps + 1
 
 abbrev pub Way : Meaning → (ℕ → Node) → ℕ → Node → Type 0
 Way m nodes n v = Begins m v ⊎ Follows m nodes n v

@@ -13,11 +13,11 @@ pub(crate) fn write_plan(rows: &[Row], row: usize, plan: &mut [u8]) -> usize
 {
     let length = rows[row].node.steps;
     let mut at = row;
-    // by number: a proof does not know what is written through `iter_mut().rev()`
-    for k in (0..length).rev() {
-        let node = rows[at].node;
-        plan[k] = node.action;
-        at = node.from;
+    let mut left = length;
+    while let Some(step) = rows[at].node.last {
+        left -= 1;
+        plan[left] = step.action;
+        at = step.from;
     }
     length
 }

@@ -12,7 +12,7 @@ use crate::fault::SearchFault;
 use crate::reach::{Progress, reach};
 use domain::Domain;
 use heap::take_least;
-use table::row::{Node, Row};
+use table::row::{Node, Row, Step};
 
 // The row of a cheapest state that waits, which is now settled; none where no state waits.
 pub(crate) fn take_next(
@@ -51,8 +51,7 @@ fn offer<D: Domain>(
         state,
         cost: here.cost + u32::from(domain.cost(action)),
         steps: here.steps + 1,
-        from: row,
-        action,
+        last: Some(Step { from: row, action }),
         settled: false,
     };
     reach(rows, list, progress, way)

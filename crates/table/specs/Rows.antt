@@ -5,7 +5,7 @@ use Rattle.table.specs.declared.row.Row.{Row}
 
 abbrev pub blank_row : Row
 blank_row = record {
-  node = record { state = 0; cost = 0; steps = 0; from = 0; action = 0; settled = false };
+  node = record { state = 0; cost = 0; steps = 0; last = None; settled = false };
   place = 0;
   link = record { head = None; next = None };
 }

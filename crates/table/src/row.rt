@@ -1,5 +1,12 @@
 // The rows of a state table. They name one another by their indices: the table is lent, so nothing in it is allocated, and no row moves.
 
+// An action that leads on from the state of a row.
+#[derive(Clone, Copy)]
+pub struct Step {
+    pub from: usize,
+    pub action: u8,
+}
+
 // A state that a search has come to, and the cheapest way to it that is known.
 #[derive(Clone, Copy, Default)]
 pub struct Node {
@@ -7,9 +14,8 @@ pub struct Node {
     // what the way costs, and how many actions it has
     pub cost: u32,
     pub steps: usize,
-    // the row of the state before, and the action that leads on from there; of no account where there are no steps
-    pub from: usize,
-    pub action: u8,
+    // the last action of the way, and where it leads on from; none at the start
+    pub last: Option<Step>,
     // no cheaper way can come
     pub settled: bool,
 }

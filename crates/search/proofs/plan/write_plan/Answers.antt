@@ -1,35 +1,26 @@
-use Rattle.std.proofs.Common.{◌≡◌, ◌+◌, ◌-◌, ◌<◌, length, refl, subst, arith, rules}
+use Rattle.std.proofs.Common.{◌-◌, ◌<◌, ℕ, is_some, refl, ap, subst, arith, rules}
+use Rattle.domain.specs.Meaning.{Meaning}
 use Rattle.table.specs.Rows.{node}
-use Rattle.search.proofs.Writing.{WrittenFrom, writing_on, writing_ends}
+use Rattle.search.specs.Solved.{Solved}
+use Rattle.search.proofs.Writing.{WrittenFrom, some_left, writing_on, writing_ends}
 use Rattle.search.proofs.plan.write_plan.Goals as goal
 
-pub bounds-rows-at : goal.bounds-rows-at
-bounds-rows-at c =
+pub loop-at-preserved : goal.loop-at-preserved
+loop-at-preserved c =
+    let rows = c.args.rows.now in
+    let row = c.args.row in
+    let l = c.loop-at in
+    let steps = (node rows row).steps in
+    let left = l.left - 1 in
+    let some : 0 < l.left = l.invariant.3 (ap is_some c.in-Some.is) in
+    let on : (m : Meaning) (n : ℕ) → Solved m (node rows) n → row < n → WrittenFrom m (node rows) n row c.args.plan.now _ steps c.in-Some.step.from left = λ m n solved low.
+    let so = subst (λ k. WrittenFrom m (node rows) n row c.args.plan.now l.plan steps l.at k) (omega (arith, some)) (l.invariant.4 m n solved low) in
+    writing_on m (node rows) n row solved c.args.plan.now l.plan steps l.at c.in-Some.step c.in-Some.is left so (omega (arith, some, l.invariant.2)) in
     let pre = c.requires.1.1 in
-    omega (arith, (c.loop-k.invariant.1 c.requires.0 c.requires.1.0 pre.0 pre.1.0).row, pre.1.1.0)
-
-pub offset_bounds-rows-at : goal.offset_bounds-rows-at
-offset_bounds-rows-at c =
-    let pre = c.requires.1.1 in
-    let low : c.loop-k.at < length c.args.rows.now = omega (arith, (c.loop-k.invariant.1 c.requires.0 c.requires.1.0 pre.0 pre.1.0).row, pre.1.1.0) in
-    search rules
-
-pub loop-k-preserved : goal.loop-k-preserved
-loop-k-preserved c = (
-  c.loop-k.invariant.0,
-  λ m n solved low.
-      let rows = c.args.rows.now in
-      let steps = (node rows c.args.row).steps in
-      let pre = c.requires.1.1 in
-      let one_less : c.loop-k.k ≡ c.loop-k.k - 1 + 1 = omega arith in
-      let so = subst (λ k. WrittenFrom m (node rows) n c.args.row c.args.plan.now c.loop-k.plan steps c.loop-k.at k) one_less (c.loop-k.invariant.1 m n solved low) in
-      writing_on m (node rows) n c.args.row solved c.args.plan.now c.loop-k.plan steps c.loop-k.at (c.loop-k.k - 1) so (omega (arith, pre.0.short c.args.row pre.1.0, pre.1.1.1)),
-)
+    let so = on c.requires.0 c.requires.1.0 pre.0 pre.1.0 in
+    (l.invariant.0, omega (arith, so.row, pre.1.1.0), omega arith, some_left c.requires.0 (node rows) c.requires.1.0 row pre.0 _ _ _ _ _ so, on)
 
 pub returns : goal.returns
 returns c = λ m n solved low.
     let rows = c.args.rows.now in
-    let steps = (node rows c.args.row).steps in
-    let none : c.loop-k.k ≡ 0 = omega arith in
-    let so = subst (λ k. WrittenFrom m (node rows) n c.args.row c.args.plan.now c.loop-k.plan steps c.loop-k.at k) none (c.loop-k.invariant.1 m n solved low) in
-    writing_ends m (node rows) n c.args.row solved c.args.plan.now c.loop-k.plan steps c.loop-k.at refl so
+    writing_ends m (node rows) n c.args.row solved c.args.plan.now c.loop-at.plan (node rows c.args.row).steps c.loop-at.at c.loop-at.left (search rules) refl (c.loop-at.invariant.4 m n solved low)

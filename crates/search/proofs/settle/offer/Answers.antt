@@ -1,6 +1,7 @@
-use Rattle.std.proofs.Common.{◌≡◌, ◌+◌, false, sym, refl, ap, ◌∙◌}
+use Rattle.std.proofs.Common.{◌≡◌, ◌+◌, false, Some, sym, refl, ap, ◌∙◌}
 use Rattle.std.proofs.lemmas.Result.{MatchResult-weaker}
 use Rattle.table.specs.declared.row.Node.{Node}
+use Rattle.table.specs.declared.row.Step.{Step}
 use Rattle.table.specs.Rows.{node}
 use Rattle.search.proofs.Settling.{offers, expand_steps, expand_full, expand_stays}
 use Rattle.search.proofs.settle.offer.Goals as goal
@@ -26,12 +27,13 @@ returns g c = λ before n w low settled is so.
     let list = c.args.list.now in
     let k = c.args.progress.now.known in
     let u = c.args.progress.now.waiting in
-    let v : Node = record { state = c.next-state.result; cost = here.cost + c.from.result; steps = here.steps + 1; from = i; action = a; settled = false } in
+    let step : Step = record { from = i; action = a } in
+    let v : Node = record { state = c.next-state.result; cost = here.cost + c.from.result; steps = here.steps + 1; last = Some step; settled = false } in
     let state : v.state ≡ m.next (node before i).state a = c.next-state.ensures ∙ ap (λ (x : Node). m.next x.state a) is in
     let cost : v.cost ≡ (node before i).cost + m.cost a = ap (λ n. here.cost + n) (c.from.ensures ∙ c.cost.ensures) ∙ ap (λ (x : Node). x.cost + m.cost a) is in
     let steps : v.steps ≡ (node before i).steps + 1 = ap (λ (x : Node). x.steps + 1) is in
     let away : v.state ≡ (node before i).state → ⊥ = λ e. c.if-state-here.false (e ∙ sym (ap (λ (x : Node). x.state) is)) in
-    let offered = offers m limits before n w i low settled rows k list u a so v state cost steps refl refl refl away in
+    let offered = offers m limits before n w i low settled rows k list u a so v step refl state cost steps refl refl refl away in
     MatchResult-weaker c.reach.result (c.reach.ensures m (node before i).cost so.searching offered)
-    (λ done h. expand_steps m limits before n w i low settled rows k list u a so v state cost steps refl refl refl away _ _ _ _ h)
-    (λ fault h. (h.0, expand_full m limits before n w i low settled rows k list u a so v state cost steps refl refl refl away h.1 h.2))
+    (λ done h. expand_steps m limits before n w i low settled rows k list u a so v step refl state cost steps refl refl refl away _ _ _ _ h)
+    (λ fault h. (h.0, expand_full m limits before n w i low settled rows k list u a so v step refl state cost steps refl refl refl away h.1 h.2))
