@@ -24,8 +24,9 @@ fn begin<D: Domain>(domain: &D, rows: &mut [Row], list: &mut [Entry]) -> Progres
         state: domain.start(),
         ..Node::default()
     };
-    let _ = add(rows, 0, start);
-    let _ = push(list, 0, Entry::new(0, &start), rows);
+    // there is a place for each: neither the table nor the list is empty
+    add(rows, 0, start);
+    push(list, 0, Entry::new(0, &start), rows);
     Progress {
         known: 1,
         waiting: 1,

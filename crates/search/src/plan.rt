@@ -11,6 +11,7 @@ pub(crate) fn write_plan(rows: &[Row], row: usize, plan: &mut [u8]) -> usize
     requires { (m : Meaning) × ((n : ℕ) × (Solved m (node rows.now) n × ((row < n) × ((n ≤ length rows.now) × (n ≤ length plan.old))))) }
     ensures { (m : Meaning) (n : ℕ) → Solved m (node rows.now) n → row < n → Written m (node rows.now row) plan.old plan.new result }
 {
+    // the places are counted down by hand: a proof does not know what is written through `iter_mut().rev()`
     let length = rows[row].node.steps;
     let mut at = row;
     let mut left = length;

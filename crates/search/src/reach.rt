@@ -25,26 +25,26 @@ fn discover(
     rows: &mut [Row],
     list: &mut [Entry],
     progress: &mut Progress,
-    way: Node,
+    way: &Node,
 ) -> Result<(), SearchFault>
-    ensures { (m : Meaning) (level : ℕ) → Searching m rows.old progress.old.known list.old progress.old.waiting level → Offered m (node rows.old) progress.old.known progress.old.waiting level way → Found rows.old progress.old.known way.state None → MatchResult result (λ done. Reached m level rows.old progress.old.known progress.old.waiting way rows.new progress.new.known list.new progress.new.waiting) (λ fault. (fault ≡ Rows) × (progress.old.known ≡ length rows.old)) }
+    ensures { (m : Meaning) (level : ℕ) → Searching m rows.old progress.old.known list.old progress.old.waiting level → Offered m (node rows.old) progress.old.known progress.old.waiting level way.now → Found rows.old progress.old.known way.now.state None → MatchResult result (λ done. Reached m level rows.old progress.old.known progress.old.waiting way.now rows.new progress.new.known list.new progress.new.waiting) (λ fault. (fault ≡ Rows) × (progress.old.known ≡ length rows.old)) }
 {
     let row = progress.known;
-    let known = add(rows, row, way).ok_or(SearchFault::Rows)?;
-    let entry = Entry::new(row, &way);
+    let known = add(rows, row, *way).ok_or(SearchFault::Rows)?;
+    let entry = Entry::new(row, way);
     let waiting = push(list, progress.waiting, entry, rows).ok_or(SearchFault::Rows)?;
     *progress = Progress { known, waiting };
     Ok(())
 }
 
 // A cheaper way to the state of a row that waits.
-fn improve(rows: &mut [Row], list: &mut [Entry], progress: Progress, row: usize, way: Node)
+fn improve(rows: &mut [Row], list: &mut [Entry], progress: Progress, row: usize, way: &Node)
     requires { row < length rows.old }
-    ensures { (m : Meaning) (level : ℕ) → Searching m rows.old progress.known list.old progress.waiting level → Offered m (node rows.old) progress.known progress.waiting level way → row < progress.known → way.state ≡ (node rows.old row).state → way.cost < (node rows.old row).cost → Reached m level rows.old progress.known progress.waiting way rows.new progress.known list.new progress.waiting }
+    ensures { (m : Meaning) (level : ℕ) → Searching m rows.old progress.known list.old progress.waiting level → Offered m (node rows.old) progress.known progress.waiting level way.now → row < progress.known → way.now.state ≡ (node rows.old row).state → way.now.cost < (node rows.old row).cost → Reached m level rows.old progress.known progress.waiting way.now rows.new progress.known list.new progress.waiting }
 {
     let place = rows[row].place;
-    rows[row].node = way;
-    lower(list, progress.waiting, place, Entry::new(row, &way), rows);
+    rows[row].node = *way;
+    lower(list, progress.waiting, place, Entry::new(row, way), rows);
 }
 
 // A way to a state: the table knows the state afterwards at no more than the way costs. It is refused where the state is new and the table is full.
@@ -52,10 +52,10 @@ pub(crate) fn reach(
     rows: &mut [Row],
     list: &mut [Entry],
     progress: &mut Progress,
-    way: Node,
+    way: &Node,
 ) -> Result<(), SearchFault>
     requires { progress.old.known ≤ length rows.old }
-    ensures { (m : Meaning) (level : ℕ) → Searching m rows.old progress.old.known list.old progress.old.waiting level → Offered m (node rows.old) progress.old.known progress.old.waiting level way → MatchResult result (λ done. Reached m level rows.old progress.old.known progress.old.waiting way rows.new progress.new.known list.new progress.new.waiting) (λ fault. (fault ≡ Rows) × (progress.old.known ≡ length rows.old) × Found rows.old progress.old.known way.state None) }
+    ensures { (m : Meaning) (level : ℕ) → Searching m rows.old progress.old.known list.old progress.old.waiting level → Offered m (node rows.old) progress.old.known progress.old.waiting level way.now → MatchResult result (λ done. Reached m level rows.old progress.old.known progress.old.waiting way.now rows.new progress.new.known list.new progress.new.waiting) (λ fault. (fault ≡ Rows) × (progress.old.known ≡ length rows.old) × Found rows.old progress.old.known way.now.state None) }
 {
     match find(rows, progress.known, way.state) {
         None => discover(rows, list, progress, way),

@@ -37,11 +37,11 @@ fn offer<D: Domain>(
     list: &mut [Entry],
     progress: &mut Progress,
     row: usize,
-    here: Node,
+    here: &Node,
     action: u8,
 ) -> Result<(), SearchFault>
-    requires { (progress.old.known ≤ length rows.old) × (here.cost ≤ 245760000) × (here.steps < 4096) }
-    ensures { (before : List Row) (n w : ℕ) → row < n → (node before row).settled ≡ true → here ≡ node before row → Expanded (D.meaning domain.now) before n w row action rows.old progress.old.known list.old progress.old.waiting → MatchResult result (λ done. Expanded (D.meaning domain.now) before n w row (action + 1) rows.new progress.new.known list.new progress.new.waiting) (λ fault. (fault ≡ Rows) × MoreThan (D.meaning domain.now) (length before)) }
+    requires { (progress.old.known ≤ length rows.old) × (here.now.cost ≤ 245760000) × (here.now.steps < 4096) }
+    ensures { (before : List Row) (n w : ℕ) → row < n → (node before row).settled ≡ true → here.now ≡ node before row → Expanded (D.meaning domain.now) before n w row action rows.old progress.old.known list.old progress.old.waiting → MatchResult result (λ done. Expanded (D.meaning domain.now) before n w row (action + 1) rows.new progress.new.known list.new progress.new.waiting) (λ fault. (fault ≡ Rows) × MoreThan (D.meaning domain.now) (length before)) }
 {
     let state = domain.next(here.state, action);
     if state == here.state {
@@ -54,7 +54,7 @@ fn offer<D: Domain>(
         last: Some(Step { from: row, action }),
         settled: false,
     };
-    reach(rows, list, progress, way)
+    reach(rows, list, progress, &way)
 }
 
 // Offers what the actions lead to from the settled row. It is refused where the table is full.
@@ -70,7 +70,7 @@ pub(crate) fn expand<D: Domain>(
 {
     let here = rows[row].node;
     for action in 0..domain.action_count() {
-        offer(domain, rows, list, progress, row, here, action)?;
+        offer(domain, rows, list, progress, row, &here, action)?;
     }
     Ok(())
 }

@@ -29,7 +29,7 @@ pub(crate) struct Link {
     pub(crate) next: Option<usize>,
 }
 
-// What a new row holds to fill a table with before it is lent is of no account.
+// A table is filled with default rows before it is lent; what they hold is of no account.
 #[derive(Clone, Copy, Default)]
 pub struct Row {
     pub node: Node,

@@ -9,6 +9,6 @@ returns c = λ m level s offered absent.
     let waiting = c.in_ok-waiting.waiting in
     let added = c.in_ok-known.ensures.ok_part in
     let pushed = c.in_ok-waiting.ensures.ok_part in
-    discovered m level c.args.rows.now c.add.new.rows c.push.new.rows c.args.progress.now.known c.args.list.now c.push.new.list c.args.progress.now.waiting c.args.way c.push.ensures.kept s offered known waiting c.new-entry.result
+    discovered m level c.args.rows.now c.add.new.rows c.push.new.rows c.args.progress.now.known c.args.list.now c.push.new.list c.args.progress.now.waiting c.args.way.now c.push.ensures.kept s offered known waiting c.new-entry.result
     (sym (cond_some _ _ _ (sym c.add.ensures.value ∙ added)).1) c.new-entry.ensures absent
     (MatchOption-at_some _ _ known added c.add.ensures.rows) (MatchOption-at_some _ _ waiting pushed c.push.ensures.pushed) (MatchOption-at_some _ _ waiting pushed c.push.ensures.tracked)

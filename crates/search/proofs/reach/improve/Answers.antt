@@ -14,6 +14,6 @@ returns c = λ m level s offered low same cheaper.
     let w = c.args.progress.waiting in
     let told = c.lower.ensures in
     let place = (at rows c.args.row).place in
-    let lowers = subst (λ x. Lowers order w place x list) (sym c.new.ensures) (is_lower m rows n list w level c.args.row c.args.way s offered low cheaper) in
+    let lowers = subst (λ x. Lowers order w place x list) (sym c.new.ensures) (is_lower m rows n list w level c.args.row c.args.way.now s offered low cheaper) in
     let so = (told.value order).1 lowers in
-    improved m level rows _ c.lower.new.rows n list c.lower.new.list w c.args.way told.kept s offered c.args.row c.new.result low c.new.ensures same cheaper (search rules) (MatchBool-at_true _ _ so told.lowered) (MatchBool-at_true _ _ so told.tracked)
+    improved m level rows _ c.lower.new.rows n list c.lower.new.list w c.args.way.now told.kept s offered c.args.row c.new.result low c.new.ensures same cheaper (search rules) (MatchBool-at_true _ _ so told.lowered) (MatchBool-at_true _ _ so told.tracked)
