@@ -20,82 +20,76 @@ fn question(fault: LogFault) -> &'static str {
     }
 }
 
-// The states that the first actions of the list lead through, from the start on.
-fn states<D: Domain>(
-    heap: Global,
-    domain: &D,
-    list: &[u8],
-    ran: usize,
-) -> Result<String, AllocError> {
-    let mut state = domain.start();
-    let mut through = vec![in heap; state]?;
-    for action in list.iter().take(ran) {
-        state = domain.next(state, *action);
-        through.push(state)?;
-    }
-    numbers(heap, through.as_slice(), "none")
+// A list of actions to be judged beside a domain by a log.
+#[derive(Drop)]
+struct Judged<'a, D> {
+    domain: &'a D,
+    log: &'a ObservationLog,
+    list: &'a [u8],
 }
 
-fn goals_met<D: Domain>(heap: Global, domain: &D, state: u64) -> Result<String, AllocError> {
-    let goals: Vec<u8> = (0..domain.goal_count())
-        .filter(|goal| domain.meets(state, *goal))
-        .collect(heap)?;
-    numbers(heap, goals.as_slice(), "none")
-}
-
-fn say_carried(rt: &HostRuntime, log: &ObservationLog, list: &[u8]) -> anyhow::Result<()> {
-    let mut places = [0; ObservationLog::MOST];
-    let Some(count) = carried(log, list, &mut places) else {
-        return Err(anyhow!("no room for the places"));
-    };
-    if let Some(action) = log.entry(count) {
-        println!(rt; "  does not carry entry {count} of the log, action {action}")?;
-    } else if count == 0 {
-        println!(rt; "  carries the empty log")?;
-    } else {
-        let at = numbers(rt.alloc(), &places[..count], "none")?;
-        println!(rt; "  carries the log at places: {at}")?;
-    }
-    Ok(())
-}
-
-// What a list that runs is worth.
-fn say_worth<D: Domain>(
-    rt: &HostRuntime,
-    domain: &D,
-    log: &ObservationLog,
-    list: &[u8],
-    course: Course,
-) -> anyhow::Result<()> {
-    let cost = course.cost;
-    let goals = goals_met(rt.alloc(), domain, course.last)?;
-    let admitted = if admits(domain, log, list) {
-        "yes"
-    } else {
-        "no"
-    };
-    println!(rt; "  cost {cost}")?;
-    println!(rt; "  meets goals: {goals}")?;
-    println!(rt; "  admitted: {admitted}")?;
-    say_carried(rt, log, list)
-}
-
-fn say_judged<D: Domain>(
-    rt: &HostRuntime,
-    domain: &D,
-    log: &ObservationLog,
-    list: &[u8],
-) -> anyhow::Result<()> {
-    let course = Course::of(domain, list);
-    let Course { ran, last, .. } = course;
-    let through = states(rt.alloc(), domain, list, ran)?;
-    println!(rt; "  states: {through}")?;
-    match list.get(ran) {
-        Some(action) => {
-            println!(rt; "  cannot run: action {action} at place {ran}, in state {last}")?;
-            Ok(())
+impl<D: Domain> Judged<'_, D> {
+    // The states that the first actions of the list lead through, from the start on.
+    fn states(&self, heap: Global, ran: usize) -> Result<String, AllocError> {
+        let mut state = self.domain.start();
+        let mut through = vec![in heap; state]?;
+        for action in self.list.iter().take(ran) {
+            state = self.domain.next(state, *action);
+            through.push(state)?;
         }
-        None => say_worth(rt, domain, log, list, course),
+        numbers(heap, through.as_slice(), "none")
+    }
+
+    fn goals_met(&self, heap: Global, state: u64) -> Result<String, AllocError> {
+        let goals: Vec<u8> = (0..self.domain.goal_count())
+            .filter(|goal| self.domain.meets(state, *goal))
+            .collect(heap)?;
+        numbers(heap, goals.as_slice(), "none")
+    }
+
+    fn say_carried(&self, rt: &HostRuntime) -> anyhow::Result<()> {
+        let mut places = [0; ObservationLog::MOST];
+        let Some(count) = carried(self.log, self.list, &mut places) else {
+            return Err(anyhow!("no room for the places"));
+        };
+        if let Some(action) = self.log.entry(count) {
+            println!(rt; "  does not carry entry {count} of the log, action {action}")?;
+        } else if count == 0 {
+            println!(rt; "  carries the empty log")?;
+        } else {
+            let at = numbers(rt.alloc(), &places[..count], "none")?;
+            println!(rt; "  carries the log at places: {at}")?;
+        }
+        Ok(())
+    }
+
+    // What a list that runs is worth.
+    fn say_worth(&self, rt: &HostRuntime, course: Course) -> anyhow::Result<()> {
+        let cost = course.cost;
+        let goals = self.goals_met(rt.alloc(), course.last)?;
+        let admitted = if admits(self.domain, self.log, self.list) {
+            "yes"
+        } else {
+            "no"
+        };
+        println!(rt; "  cost {cost}")?;
+        println!(rt; "  meets goals: {goals}")?;
+        println!(rt; "  admitted: {admitted}")?;
+        self.say_carried(rt)
+    }
+
+    fn say(&self, rt: &HostRuntime) -> anyhow::Result<()> {
+        let course = Course::of(self.domain, self.list);
+        let Course { ran, last, .. } = course;
+        let through = self.states(rt.alloc(), ran)?;
+        println!(rt; "  states: {through}")?;
+        match self.list.get(ran) {
+            Some(action) => {
+                println!(rt; "  cannot run: action {action} at place {ran}, in state {last}")?;
+                Ok(())
+            }
+            None => self.say_worth(rt, course),
+        }
     }
 }
 
@@ -126,7 +120,9 @@ pub(crate) fn judge_list<D: Domain>(
     match ObservationLog::read(entries.as_slice(), domain.action_count()) {
         Ok(log) => {
             say_list(rt, list.as_slice(), entries.as_slice())?;
-            say_judged(rt, domain, &log, list.as_slice())
+            let list = list.as_slice();
+            let log = &log;
+            Judged { domain, log, list }.say(rt)
         }
         Err(fault) => say_refused(rt, fault),
     }
