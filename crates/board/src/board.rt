@@ -4,6 +4,7 @@ ghost use Rattle.board.specs.Rows.{AllAgree};
 
 use crate::row::BoardRow;
 
+// A domain has at most 32 goals, and the table is as long, so that no call allocates.
 #[derive(Clone, Copy, PartialEq, Eq, Debug)]
 pub struct Board {
     pub(crate) rows: [BoardRow; 32],

@@ -31,6 +31,7 @@ impl Board {
     }
 
     // Puts a row in the place of a goal's; the answer is whether there is such a place, and the row agrees with itself.
+    // It is a yes or a no: of a row that is not stored there is nothing more to tell.
     pub fn store(&mut self, goal: u8, row: BoardRow) -> bool
         ensures value { result ≡ (nat_lt goal 32 && agrees row) }
         ensures rows { self.new.rows ≡ (if result then slice_set self.old.rows goal row else self.old.rows) }

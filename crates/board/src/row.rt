@@ -5,6 +5,7 @@ ghost use Rattle.board.specs.Rows.{open_row, judged_row, agrees};
 use plans::verdict::Verdict;
 
 // A row is open, or holds a verdict and the costs that exist. The default is the open row.
+// It is plain, and may contradict itself: that no row does is the rule of the board.
 #[derive(Clone, Copy, PartialEq, Eq, Debug, Default)]
 pub struct BoardRow {
     // none while the row is open

@@ -73,6 +73,7 @@ pub(crate) fn compile(
     ensures stands { IfOk result (λ new. StandsByCosts (contents card.now) log.now (contents new)) }
     ensures law { CompileLaw }
 {
+    // a match and no `?`: either arm takes the room
     match Accepted::new(card, log) {
         Ok(accepted) => Ok(accepted.compiled(room)),
         Err(fault) => Err(Uncompiled { fault, room }),

@@ -1,4 +1,4 @@
-// Why a call on a file is refused. Each case has a number, by which the programs report it.
+// Why a call is refused: on a file, on a log, or for want of memory.
 ghost use Rattle.std.specs.Prelude.{◌≡◌, ℕ, Some, codes};
 ghost use Rattle.domain.specs.Faults.{read_number, write_number, log_number, room_number, position_of, position_words};
 ghost use Rattle.domain.specs.declared.fault.RoomFault.TheVariants.{Memory};
@@ -85,6 +85,7 @@ impl ReadFault {
     }
 }
 
+// Why a file is not written.
 #[derive(Clone, Copy, PartialEq, Eq, Debug)]
 pub enum WriteFault {
     // the place is shorter than the file
@@ -127,6 +128,7 @@ impl Numbered for LogFault {
     }
 }
 
+// Why there is no room for a domain.
 #[derive(Clone, Copy, PartialEq, Eq, Debug)]
 pub enum RoomFault {
     // there is no memory for a domain

@@ -16,24 +16,26 @@ pub trait Domain {
     fn width(&self) -> u8
         ensures { result ≡ (meaning self.now).width };
 
+    // Actions are numbered from 0, and so are goals.
     fn action_count(&self) -> u8
         ensures { result ≡ (meaning self.now).actions };
 
     fn goal_count(&self) -> u8
         ensures { result ≡ (meaning self.now).goals };
 
+    // The state in which every plan begins.
     fn start(&self) -> u64
         ensures { result ≡ (meaning self.now).start };
 
-    // No for a number that is no state or no action.
+    // Whether the action can run in the state; no for a number that is no state or no action.
     fn runs(&self, state: u64, action: u8) -> bool
         ensures { result ≡ (meaning self.now).runs state action };
 
-    // The same state where the action cannot run.
+    // The state that follows; the same one where the action cannot run.
     fn next(&self, state: u64, action: u8) -> u64
         ensures { result ≡ (meaning self.now).next state action };
 
-    // 0 for a number that is no action.
+    // What the action costs; 0 for a number that is no action.
     fn cost(&self, action: u8) -> u16
         ensures { result ≡ (meaning self.now).cost action };
 
@@ -41,6 +43,7 @@ pub trait Domain {
     fn marked(&self, action: u8) -> bool
         ensures { result ≡ (meaning self.now).marked action };
 
+    // Whether the state meets the goal; no for a number that is no state or no goal.
     fn meets(&self, state: u64, goal: u8) -> bool
         ensures { result ≡ (meaning self.now).meets state goal };
 

@@ -5,7 +5,7 @@ ghost use Rattle.judge.specs.Carried.{CarriedAt, NoneLonger};
 
 use logs::log::ObservationLog;
 
-// How many entries from the log's front the list carries.
+// How many entries from the log's front the list carries. The caller lends the places, and nothing is allocated.
 // Their places go into the front of `places`, whose rest stays; None, with nothing written, where it is shorter than the log.
 pub fn carried(log: &ObservationLog, list: &[u8], places: &mut [usize]) -> Option<usize>
     ensures room { is_some result ≡ nat_le (length (entries log.now)) (length places.old) }

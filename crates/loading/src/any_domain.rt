@@ -12,7 +12,7 @@ pub enum AnyDomain {
     Map(FieldMap),
 }
 
-// It means what the card or the map means.
+// It means what the card or the map means. Each method asks the one or the other by itself, since no function may hand out a `dyn Domain`.
 impl Domain for AnyDomain {
     ghost meaning = { λ d. meaning_of (contents d) };
 

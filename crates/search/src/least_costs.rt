@@ -42,6 +42,7 @@ fn answer<D: Domain>(
 
 // The least cost of a plan for the goal and that of a plan which ends in a complete state, and how many actions the plan has that is shown:
 // a cheapest complete one where there is one, else a cheapest one, else none.
+// The two costs are a pair, by which the verdict is decided. Each of the three places is lent by itself: a struct of borrows would name them one by one in the contract.
 pub fn least_costs<D: Domain>(
     domain: &D,
     goal: u8,

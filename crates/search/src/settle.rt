@@ -30,7 +30,7 @@ pub(crate) fn take_next(
     Some(entry.row)
 }
 
-// Offers what one action leads to from the settled row, which has the node `here`. It is refused where that is new and the table is full.
+// Offers what one action leads to from the settled row, which has the node `here`; no way costs more than 60000 for each of 4096 steps. It is refused where that is new and the table is full.
 fn offer<D: Domain>(
     domain: &D,
     rows: &mut [Row],

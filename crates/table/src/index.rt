@@ -5,7 +5,7 @@ ghost use Rattle.table.specs.Rows.{blank_row, at};
 
 use crate::row::{Node, Row};
 
-// The chain of a state in a table of that many rows.
+// The chain of a state in a table of that many rows. The multiplier is 2^64 by the golden ratio, which parts numbers that are near one another.
 fn chain_of(state: u64, size: usize) -> usize
     requires { 0 < size }
     ensures value { result ≡ chain_of size state }
@@ -33,6 +33,7 @@ pub fn find(rows: &[Row], len: usize, state: u64) -> Option<usize>
     let mut bound = len.min(rows.len());
     let mut seek = rows[chain_of(state, rows.len())].link.head;
     while let Some(i) = seek {
+        // the rows of a chain fall, so this one is of no chain
         if i >= bound {
             return None;
         }

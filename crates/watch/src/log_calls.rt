@@ -1,4 +1,4 @@
-// The calls on a watch that change it.
+// The calls on a watch that change its log.
 ghost use Rattle.std.specs.Prelude.{◌≡◌, [], replicate};
 ghost use Rattle.board.specs.Rows.{open_row};
 ghost use Rattle.watched.specs.Noting.{add_outcome, drop_outcome};

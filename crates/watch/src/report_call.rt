@@ -18,6 +18,7 @@ use table::row::Row;
 impl<D: Domain> Watch<D> {
     // The verdict on the goal for the present log, both least costs, and a plan in the front of the plan place. The goal's row is rewritten, and no other.
     // The plan is a cheapest whole one where the goal stands or costs more, a cheapest admitted one where it is cut off, and none where there is none.
+    // The three places are lent one by one, as to the search.
     pub(crate) fn report(
         &mut self,
         goal: u8,
@@ -34,6 +35,7 @@ impl<D: Domain> Watch<D> {
         ensures law { Then (D.meaning self.old.domain) (report goal (sizes_of table.old waiting.old plan.old), report_answer plan.new result) self.old.log self.old.rows self.new.log self.new.rows }
     {
         let (costs, length) = least_costs(&self.watched, goal, table, waiting, plan)?;
+        // the board has a row for every goal, and a row of two costs agrees with itself
         let _ = self.board.store(goal, BoardRow::judged(costs));
         let (without, with) = costs;
         Ok(Report {
