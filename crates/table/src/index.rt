@@ -33,7 +33,7 @@ pub fn find(rows: &[Row], len: usize, state: u64) -> Option<usize>
     let mut bound = len.min(rows.len());
     let mut seek = rows[chain_of(state, rows.len())].link.head;
     while let Some(i) = seek {
-        // the rows of a chain fall, so this one is of no chain
+        // the rows of a chain fall: what does not is not followed
         if i >= bound {
             return None;
         }

@@ -1,4 +1,4 @@
-// The tables of a search. Only their size and the plan that they show is seen from outside.
+// The tables of a search. Their size and the plan that they show are all that counts outside.
 ghost use Rattle.std.specs.Prelude.{◌≡◌, ◌≤◌, vec_len};
 
 use search::entry::Entry;

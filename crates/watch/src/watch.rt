@@ -10,12 +10,13 @@ pub struct Watch<D> {
     pub(crate) board: Board,
 }
 
-// A contract sees the domain, the entries of the log, and the rows.
+// A contract sees the domain, the entries of the log, and the rows: at most 20 entries, and 32 rows that agree with themselves.
 impl<D> Model for Watch<D> {
     ghost use Rattle.logs.specs.Entries.{entries};
+    ghost use Rattle.logs.proofs.Fronts.{few_entries};
     ghost use Rattle.watch.specs.Kept.{Kept};
 
     ghost Value = { Kept D };
 
-    ghost view = { λ w. record { domain = w.watched.domain; log = entries w.watched.log; rows = w.board.rows } };
+    ghost view = { λ w. record { domain = w.watched.domain; log = entries w.watched.log; rows = w.board.rows; few = few_entries w.watched.log; long = w.board.long; agree = w.board.agree } };
 }
