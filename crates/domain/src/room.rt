@@ -15,7 +15,7 @@ pub struct Room<S, G> {
 }
 
 impl<S: Drop, G: Drop> Room<S, G> {
-    // The one function that can fail for want of memory.
+    // It can fail for want of memory; reading into the room then cannot.
     pub fn take(heap: Global) -> Result<Room<S, G>, RoomFault>
         ensures empty { IfOk result (λ room. (room.actions.items ≡ []) × (room.goals.items ≡ [])) }
         ensures wide { IfOk result (λ room. (120 ≤ vec_capacity room.actions) × (32 ≤ vec_capacity room.goals)) }
