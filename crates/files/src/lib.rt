@@ -7,7 +7,7 @@ pub mod file;
 mod header;
 pub mod kind;
 mod layout;
-mod numbers;
+pub mod numbers;
 pub mod read_file;
 pub mod record;
 pub mod write_file;

@@ -13,13 +13,12 @@ pub(crate) fn read_number(bytes: &[u8]) -> u64
 }
 
 // Whether the value takes no more than so many bits.
-pub(crate) fn has_bits(value: u64, bits: u8) -> bool
+pub fn has_bits(value: u64, bits: u8) -> bool
     ensures { IsTrue result ↔ (value < 2 ^ bits) }
 {
-    match value.checked_shr(u32::from(bits)) {
-        Some(high) => high == 0,
-        None => true,
-    }
+    value
+        .checked_shr(u32::from(bits))
+        .is_none_or(|high| high == 0)
 }
 
 // The number's lowest bytes, as many as the place has.

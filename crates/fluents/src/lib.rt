@@ -6,6 +6,8 @@ ghost use Rattle.fluents.specs.Fluents.{holds, Within};
 
 pub mod set_record;
 
+use files::numbers::has_bits;
+
 // A set of fluents, numbered from 0: fluent i is in it where bit i is 1.
 #[derive(Clone, Copy, PartialEq, Eq, Default, Debug)]
 pub struct FluentSet(u64);
@@ -49,9 +51,7 @@ impl FluentSet {
     pub fn is_among(self, fluents: u8) -> bool
         ensures { IsTrue result ↔ (self.0 < 2 ^ fluents) }
     {
-        self.0
-            .checked_shr(u32::from(fluents))
-            .is_none_or(|rest| rest == 0)
+        has_bits(self.0, fluents)
     }
 
     pub fn with(self, other: FluentSet) -> FluentSet
