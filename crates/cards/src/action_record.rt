@@ -15,7 +15,7 @@ impl Record for Action {
             needs: FluentSet::from(value_at(values, 0)),
             adds: FluentSet::from(value_at(values, 1)),
             deletes: FluentSet::from(value_at(values, 2)),
-            cost: value_at(values, 3).min(65_535) as u16,
+            cost: u16::try_from(value_at(values, 3)).unwrap_or(u16::MAX),
             marked,
         }
     }

@@ -10,7 +10,7 @@ use files::record::{Record, value_at};
 fn place_at(values: &[u64], field: usize) -> Place
     ensures { result ≡ place_in values.now field }
 {
-    Place(value_at(values, field).min(255) as u8)
+    Place(u8::try_from(value_at(values, field)).unwrap_or(u8::MAX))
 }
 
 impl Record for Move {
@@ -22,7 +22,7 @@ impl Record for Move {
         Move {
             from: place_at(values, 0),
             to: place_at(values, 1),
-            cost: value_at(values, 2).min(65_535) as u16,
+            cost: u16::try_from(value_at(values, 2)).unwrap_or(u16::MAX),
             marked,
         }
     }
