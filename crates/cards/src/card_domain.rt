@@ -1,10 +1,11 @@
 // A card as a planning domain.
-ghost use Rattle.std.specs.Prelude.{◌≡◌, ◌↔◌, ◌^◌, ◌<◌, IsTrue};
-ghost use Rattle.cards.specs.Cards.{meaning_of, Runs, After, Meets, OwnCost, OwnMark};
+ghost use Rattle.std.specs.Prelude.{◌≡◌, ◌↔◌, ◌^◌, ◌<◌, IsTrue, MatchOption};
+ghost use Rattle.cards.specs.Cards.{action_at, meaning_of, Runs, After, Meets, OwnCost, OwnMark};
 ghost use Rattle.cards.specs.Contents.{contents};
 ghost use Rattle.cards.specs.Laws;
 ghost use Rattle.cards.specs.Laws.{in_limits};
 
+use crate::action::Action;
 use crate::card::Card;
 use domain::Domain;
 use fluents::FluentSet;
@@ -15,6 +16,15 @@ impl Card {
         ensures { IsTrue result ↔ (state < 2 ^ (contents self.now).fluents) }
     {
         state < 1u64 << self.parts.size()
+    }
+
+    // The action of that number, if it runs in the state.
+    fn running(&self, state: u64, action: u8) -> Option<&Action>
+        ensures { MatchOption result (Runs (contents self.now) state action → ⊥) (λ a. Runs (contents self.now) state action × (a.now ≡ action_at (contents self.now) action)) }
+    {
+        let s = FluentSet::from(state);
+        let action = self.parts.action(action);
+        action.filter(|a| self.is_state(state) && a.needs.within(s))
     }
 }
 
@@ -46,9 +56,7 @@ impl Domain for Card {
         ensures value { result ≡ (meaning_of (contents self.now)).runs state action }
         ensures fluents { IsTrue result ↔ Runs (contents self.now) state action }
     {
-        let s = FluentSet::from(state);
-        let action = self.parts.action(action);
-        action.is_some_and(|a| self.is_state(state) && a.needs.within(s))
+        self.running(state, action).is_some()
     }
 
     fn next(&self, state: u64, action: u8) -> u64
@@ -57,11 +65,9 @@ impl Domain for Card {
         ensures stays { (Runs (contents self.now) state action → ⊥) → result ≡ state }
     {
         let s = FluentSet::from(state);
-        match self.parts.action(action) {
-            Some(a) if self.is_state(state) && a.needs.within(s) => {
-                u64::from(s.without(a.deletes).with(a.adds))
-            }
-            _ => state,
+        match self.running(state, action) {
+            Some(a) => u64::from(s.without(a.deletes).with(a.adds)),
+            None => state,
         }
     }
 

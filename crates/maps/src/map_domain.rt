@@ -1,12 +1,24 @@
 // A field map as a planning domain.
-ghost use Rattle.std.specs.Prelude.{◌≡◌, ◌↔◌, ◌^◌, ◌<◌, ◌≤◌, false, IsTrue};
+ghost use Rattle.std.specs.Prelude.{◌≡◌, ◌↔◌, ◌^◌, ◌<◌, ◌≤◌, false, IsTrue, MatchOption};
 ghost use Rattle.maps.specs.Contents.{contents};
 ghost use Rattle.maps.specs.Maps.{meaning_of, move_at, Runs, Meets, OwnCost, OwnMark};
 ghost use Rattle.maps.specs.Laws;
 ghost use Rattle.maps.specs.Laws.{in_limits};
 
 use crate::field_map::FieldMap;
+use crate::moves::Move;
 use domain::Domain;
+
+impl FieldMap {
+    // The move of that number, if it runs in the state.
+    fn running(&self, state: u64, action: u8) -> Option<&Move>
+        ensures { MatchOption result (Runs (contents self.now) state action → ⊥) (λ m. Runs (contents self.now) state action × (m.now ≡ move_at (contents self.now) action)) }
+    {
+        self.parts
+            .action(action)
+            .filter(|m| state == u64::from(m.from))
+    }
+}
 
 impl Domain for FieldMap {
     ghost meaning = { λ m. meaning_of (contents m) };
@@ -38,9 +50,7 @@ impl Domain for FieldMap {
         ensures leaves { IsTrue result ↔ Runs (contents self.now) state action }
         ensures elsewhere { (contents self.now).places ≤ state → result ≡ false }
     {
-        self.parts
-            .action(action)
-            .is_some_and(|m| state == u64::from(m.from))
+        self.running(state, action).is_some()
     }
 
     fn next(&self, state: u64, action: u8) -> u64
@@ -48,9 +58,9 @@ impl Domain for FieldMap {
         ensures reaches { Runs (contents self.now) state action → result ≡ (move_at (contents self.now) action).to.0 }
         ensures stays { (Runs (contents self.now) state action → ⊥) → result ≡ state }
     {
-        match self.parts.action(action) {
-            Some(m) if state == u64::from(m.from) => u64::from(m.to),
-            _ => state,
+        match self.running(state, action) {
+            Some(m) => u64::from(m.to),
+            None => state,
         }
     }
 

@@ -1,5 +1,5 @@
 use Rattle.std.proofs.Common.{refl, rules}
-use Rattle.cards.specs.Cards.{Runs, After}
+use Rattle.cards.specs.Cards.{After}
 use Rattle.cards.specs.Contents.{contents}
 use Rattle.cards.specs.Laws.{after_from_steps, next_from_laws}
 use Rattle.cards.proofs.card_domain.CardDomain.next.Goals as goal
@@ -7,12 +7,8 @@ use Rattle.cards.proofs.card_domain.CardDomain.next.Goals as goal
 pub returns-in-Some-clause-value : goal.returns-in-Some-clause-value
 returns-in-Some-clause-value c =
     let card = contents c.args.self.now in
-    let runs : Runs card c.args.state c.args.action = search rules in
     let after : After card c.args.state c.args.action c.from.result = after_from_steps card _ _ c.without.result.0 _ (search rules) (search rules) in
-    next_from_laws card _ _ _ (λ _. after) (λ no. absurd (no runs))
+    next_from_laws card _ _ _ (λ _. after) (λ no. absurd (no c.in-Some.ensures.0))
 
-pub returns-in_default-clause-value : goal.returns-in_default-clause-value
-returns-in_default-clause-value c =
-    let card = contents c.args.self.now in
-    let no : Runs card c.args.state c.args.action → ⊥ = search rules in
-    next_from_laws card _ _ _ (λ r. absurd (no r)) (λ _. refl)
+pub returns-in-None-clause-value : goal.returns-in-None-clause-value
+returns-in-None-clause-value c = next_from_laws (contents c.args.self.now) _ _ _ (λ r. absurd (c.in-None.ensures r)) (λ _. refl)
