@@ -8,10 +8,11 @@ use Rattle.cards.specs.Cards.{action_at, meaning_of, Runs}
 use Rattle.cards.specs.Contents.{Contents}
 use Rattle.cards.specs.Laws.{decides_runs}
 use Rattle.plans.specs.Counting.{may_run, advance, advance_all}
-use Rattle.plans.specs.Logs.{occurs}
+use Rattle.plans.specs.Logs.{occurs, Logged}
 use Rattle.plans.specs.Plans.{after, RunsAll, cost_of}
-use Rattle.plans.proofs.Carrying.{advance_low}
-use Rattle.compile.proofs.Counts.{count_rises, count_past, entry_occurs, Logged, may_logged}
+use Rattle.plans.proofs.Carrying.{advance_high, advance_low}
+use Rattle.plans.proofs.Marks.{may_logged}
+use Rattle.compile.proofs.Counts.{count_past, entry_occurs}
 use Rattle.compile.proofs.Shape.{Shape}
 use Rattle.compile.proofs.Steps.{Over, before_holds, own_runs_below, own_cost, own_marks, own_over, idle_over, copy_runs_below, copy_cost, copy_over, copy_marks}
 
@@ -47,7 +48,7 @@ module _ (c : Contents) (log : List ℕ) (new : Contents) (shape : Shape c log n
         (cases_lt 0 j) in
         ⊎_elim
         (λ (e : eqb (c.fluents + i) (c.fluents + j) ≡ true). omega (arith, eqb-true (c.fluents + i) (c.fluents + j) e, count_past log k j reached h))
-        (λ (held : holds (c.fluents + i) x ≡ true). omega (arith, counted i held, count_rises log k (get_or log j 0)))
+        (λ (held : holds (c.fluents + i) x ≡ true). omega (arith, counted i held, advance_high log k (get_or log j 0)))
         (or_cases _ _ (sym (copy_marks c log new shape x s over j h r (c.fluents + i) (omega arith)) ∙ t))
 
   -- one action more at the front: a on the card for b on the compiled card
@@ -75,8 +76,8 @@ module _ (c : Contents) (log : List ℕ) (new : Contents) (shape : Shape c log n
       let kept = own_counted x s k over counted b own run in
       ⊎_elim
       (λ may.
-      front x s k b b list (own_runs_below c log new shape x s over b own run) (may_logged (meaning_of c) log b may) (own_cost c log new shape x s over b own)
-      (ran_below list ((meaning_of new).next x b) ((meaning_of c).next s b) (advance log k b) (own_over c log new shape x s over b own may run) (λ j t. omega (arith, kept j t, count_rises log k b)) (advance_low log k b low) r.1))
+      front x s k b b list (own_runs_below c log new shape x s over b own run) (may_logged log b (action_at c b).marked may) (own_cost c log new shape x s over b own)
+      (ran_below list ((meaning_of new).next x b) ((meaning_of c).next s b) (advance log k b) (own_over c log new shape x s over b own may run) (λ j t. omega (arith, kept j t, advance_high log k b)) (advance_low log k b low) r.1))
       (λ idle. idle_front x s k b list (ran_below list ((meaning_of new).next x b) s k (idle_over c log new shape x s over b own idle run) kept low r.1))
       (cases_Bool (may_run log b (action_at c b).marked)))
       (λ (past : length c.actions ≤ b).

@@ -7,8 +7,10 @@ use Rattle.cards.specs.Cards.{action_at, meaning_of, Runs}
 use Rattle.cards.specs.Contents.{Contents}
 use Rattle.cards.specs.Laws.{decides_runs}
 use Rattle.plans.specs.Counting.{may_run, advance, advance_all}
+use Rattle.plans.specs.Logs.{Logged}
 use Rattle.plans.specs.Plans.{after, RunsAll, cost_of}
-use Rattle.compile.proofs.Counts.{count_grows, count_stays, count_ended, Logged, may_from}
+use Rattle.plans.proofs.Carrying.{grows, stays, ended}
+use Rattle.plans.proofs.Marks.{logged_may}
 use Rattle.compile.proofs.Shape.{Shape}
 use Rattle.compile.proofs.Steps.{Over, holds_before, own_runs_above, own_cost, own_marks, own_over, copy_runs_above, copy_cost, copy_over, copy_marks}
 
@@ -51,21 +53,21 @@ module _ (c : Contents) (log : List ℕ) (new : Contents) (shape : Shape c log n
   ran_above (a ∷ plan) x s k over marked r logged =
       let run : Runs c s a = (decides_runs c s a).0 r.0 in
       let later : Logged (meaning_of c) log plan = λ b o m. logged b (or_right _ _ o) m in
-      let own : advance log k a ≡ k → Above x s k (a ∷ plan) = λ stays.
+      let own : advance log k a ≡ k → Above x s k (a ∷ plan) = λ same.
       let up = own_runs_above c log new shape x s over a run.1 run in
-      let may : may_run log a (action_at c a).marked ≡ true = may_from (meaning_of c) log a (logged a (or_left _ _ (eq-eqb a a refl))) in
-      front x s k a a k plan stays up (own_cost c log new shape x s over a run.1) (ran_above plan ((meaning_of new).next x a) ((meaning_of c).next s a) k (own_over c log new shape x s over a run.1 may up) (own_marked x s k over marked a run.1 up) r.1 later) in
+      let may : may_run log a (action_at c a).marked ≡ true = logged_may log a (action_at c a).marked (logged a (or_left _ _ (eq-eqb a a refl))) in
+      front x s k a a k plan same up (own_cost c log new shape x s over a run.1) (ran_above plan ((meaning_of new).next x a) ((meaning_of c).next s a) k (own_over c log new shape x s over a run.1 may up) (own_marked x s k over marked a run.1 up) r.1 later) in
       ⊎_elim
       (λ (h : k < length log). ⊎_elim
       (λ (same : get_or log k 0 ≡ a).
       let b = length c.actions + k in
       let up = copy_run x s k over marked h (subst (Runs c s) (sym same) run) in
-      front x s k b a (k + 1) plan (ap (advance log k) (sym same) ∙ count_grows log k h) up (copy_cost c log new shape x s over k h ∙ ap (meaning_of c).cost same)
+      front x s k b a (k + 1) plan (grows log k a h same) up (copy_cost c log new shape x s over k h ∙ ap (meaning_of c).cost same)
       (ran_above plan ((meaning_of new).next x b) ((meaning_of c).next s a) (k + 1)
       (subst (λ n. Over c new ((meaning_of new).next x b) ((meaning_of c).next s n)) same (copy_over c log new shape x s over k h up))
       (copy_marked x s k over marked h up)
       r.1 later))
-      (λ other. own (count_stays log k a h other))
+      (λ other. own (stays log k a h other))
       (cases_eq (get_or log k 0) a))
-      (λ (ended : length log ≤ k). own (count_ended log k a ended))
+      (λ (past : length log ≤ k). own (ended log k a past))
       (cases_lt k (length log))

@@ -4,15 +4,11 @@ use Rattle.std.proofs.lemmas.List.{take_more, length_push, length-take-le, get_o
 use Rattle.std.proofs.lemmas.Bool.Decides.{nat_tests}
 use Rattle.std.proofs.lemmas.Bool.{cases_lt}
 use Rattle.plans.specs.Counting.{advance, advance_all}
-use Rattle.plans.proofs.Carrying.{advance_low, carries_counted}
+use Rattle.plans.proofs.Carrying.{advance_high, advance_low, carries_counted}
 use Rattle.judge.specs.Carried.{CarriedAt, NoneLonger}
 
--- how the count grows
+-- where the count grows, it grows by one, and the action is the next entry
 module _ (log : List ℕ) (k a : ℕ) where
-  pub advance_high : k ≤ advance log k a
-  advance_high = grind (arith, nat_tests)
-
-  -- where it grows, it grows by one, and the action is the next entry
   pub record Grown : Type 0 where
     pub by_one : advance log k a ≡ k + 1
     pub inside : k < length log

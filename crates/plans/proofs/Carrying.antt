@@ -74,14 +74,17 @@ unskip x a log plan other c =
 
 -- how the count grows
 module _ (log : List ℕ) (k a : ℕ) where
-  grows : k < length log → get_or log k 0 ≡ a → advance log k a ≡ k + 1
+  pub grows : k < length log → get_or log k 0 ≡ a → advance log k a ≡ k + 1
   grows h e = grind (arith, nat_tests)
 
-  stays : k < length log → (get_or log k 0 ≡ a → ⊥) → advance log k a ≡ k
+  pub stays : k < length log → (get_or log k 0 ≡ a → ⊥) → advance log k a ≡ k
   stays h e = grind (arith, nat_tests)
 
-  ended : length log ≤ k → advance log k a ≡ k
+  pub ended : length log ≤ k → advance log k a ≡ k
   ended h = grind (arith, nat_tests)
+
+  pub advance_high : k ≤ advance log k a
+  advance_high = grind (arith, nat_tests)
 
   pub advance_low : k ≤ length log → advance log k a ≤ length log
   advance_low h = grind (arith, nat_tests)
