@@ -1,8 +1,9 @@
 -- Least costs by a table of costs to go: one test of the table, which antt computes, bounds every list of actions.
 use Rattle.std.proofs.Common.{◌≡◌, ℕ, zero, suc, ◌+◌, ◌<◌, min, Bool, true, false, cond, not, ◌&&◌, ◌||◌, eqb, ltb, leb, List, [], ◌∷◌, length, get_or, Some, None, Option, sym, ◌∙◌, subst, ⊎_elim, arith}
-use Rattle.std.proofs.lemmas.Bool.{cases_lt, cases_eq, and_parts, or_cases, not_from_true, leb-true, le-leb, ltb-true, eqb-true, true≢false}
+use Rattle.std.proofs.lemmas.Bool.{cases_eq, and_parts, or_cases, not_from_true, leb-true, le-leb, ltb-true, eqb-true, true≢false}
 use Rattle.domain.specs.Meaning.{Meaning, Limits}
 use Rattle.plans.specs.Plans.{after, RunsAll, cost_of, LeastCost}
+use Rattle.plans.proofs.Running.{is_action}
 
 -- a test that holds of every number below n
 abbrev all_below : ℕ → (ℕ → Bool) → Bool
@@ -60,14 +61,11 @@ module _ (m : Meaning) (ends : ℕ → Bool) where
     is_bound = all_below (length table) row_holds
 
     module _ (limits : Limits m) (bound : is_bound ≡ true) where
-      is_action : (s a : ℕ) → m.runs s a ≡ true → a < m.actions
-      is_action s a r = ⊎_elim (λ h. h) (λ h. absurd (true≢false (sym r ∙ limits.runs_no_action s a h))) (cases_lt a m.actions)
-
       bounds : (plan : List ℕ) (s : ℕ) → s < length table → RunsAll m s plan → ends (after m s plan) ≡ true → at_most (to_go s) (Some (cost_of m plan)) ≡ true
       bounds [] s h r e = implied (ends s) _ (and_parts _ _ (all_below_at (length table) row_holds bound s h)).0 e
       bounds (a ∷ plan) s h r e =
           let row = (and_parts _ _ (all_below_at (length table) row_holds bound s h)).1 in
-          let step = and_parts _ _ (implied (m.runs s a) _ (all_below_at m.actions (step_holds s) row a (is_action s a r.0)) r.0) in
+          let step = and_parts _ _ (implied (m.runs s a) _ (all_below_at m.actions (step_holds s) row a (is_action m limits s a r.0)) r.0) in
           at_most_plus (to_go s) (to_go (m.next s a)) (m.cost a) (cost_of m plan) step.1 (bounds plan (m.next s a) (ltb-true _ _ step.0) r.1 e)
 
   -- A list of actions that shows a cost.

@@ -1,22 +1,9 @@
 -- The first actions of a list, run one after another from the start.
-use Rattle.std.proofs.Common.{◌≡◌, ℕ, ◌+◌, ◌*◌, ◌<◌, ◌≤◌, true, List, [], ◌∷◌, ◌++◌, length, get_or, take, sym, refl, ap, ◌∙◌, subst, arith}
+use Rattle.std.proofs.Common.{◌≡◌, ℕ, ◌+◌, ◌*◌, ◌<◌, ◌≤◌, true, List, [], ◌∷◌, ◌++◌, length, get_or, take, sym, ap, ◌∙◌, subst, arith}
 use Rattle.std.proofs.lemmas.List.{take_more}
 use Rattle.domain.specs.Meaning.{Meaning}
 use Rattle.plans.specs.Plans.{after, RunsAll, cost_of}
-
--- one action more at the end
-module _ (d : Meaning) (a : ℕ) where
-  after_push : (s : ℕ) (list : List ℕ) → after d s (list ++ (a ∷ [])) ≡ d.next (after d s list) a
-  after_push s [] = refl
-  after_push s (x ∷ list) = after_push (d.next s x) list
-
-  runs_push : (s : ℕ) (list : List ℕ) → RunsAll d s list → d.runs (after d s list) a ≡ true → RunsAll d s (list ++ (a ∷ []))
-  runs_push s [] r h = (h, tt)
-  runs_push s (x ∷ list) r h = (r.0, runs_push (d.next s x) list r.1 h)
-
-  cost_push : (list : List ℕ) → cost_of d (list ++ (a ∷ [])) ≡ cost_of d list + d.cost a
-  cost_push [] = omega arith
-  cost_push (x ∷ list) = omega (arith, cost_push list)
+use Rattle.plans.proofs.Running.{after_append, runs_append, cost_append}
 
 -- the first n actions run, lead to a state and have a cost, which is at most 65535 for each
 pub record Ran (d : Meaning) (list : List ℕ) (n state cost : ℕ) : Type 0 where
@@ -33,8 +20,8 @@ module _ (d : Meaning) (list : List ℕ) (n state cost : ℕ) (ran : Ran d list 
       let front = take n list in
       let grown : take (n + 1) list ≡ front ++ (a ∷ []) = take_more list n 0 inside in
       record {
-        runs = subst (RunsAll d d.start) (sym grown) (runs_push d a d.start front ran.runs (ap (λ s. d.runs s a) (sym ran.last) ∙ can));
-        last = is-next ∙ ap (λ s. d.next s a) ran.last ∙ sym (ap (after d d.start) grown ∙ after_push d a d.start front);
-        costs = sym (ap (cost_of d) grown ∙ cost_push d a front ∙ omega (arith, ran.costs));
+        runs = subst (RunsAll d d.start) (sym grown) (runs_append d front (a ∷ []) d.start ran.runs (ap (λ s. d.runs s a) (sym ran.last) ∙ can, tt));
+        last = is-next ∙ ap (λ s. d.next s a) ran.last ∙ sym (ap (after d d.start) grown ∙ after_append d front (a ∷ []) d.start);
+        costs = sym (ap (cost_of d) grown ∙ cost_append d front (a ∷ []) ∙ omega (arith, ran.costs));
         low = omega (arith, ran.low);
       }

@@ -4,5 +4,6 @@ pub mod Judging
 pub mod LeastCosts
 pub mod Marks
 pub mod Pigeonhole
+pub mod Running
 pub mod Stacking
 pub mod Watching

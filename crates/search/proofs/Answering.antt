@@ -5,10 +5,11 @@ use Rattle.std.specs.List.{ContainsAt}
 use Rattle.std.proofs.ByRecursion.{has_append_right}
 use Rattle.std.proofs.lemmas.List.{length-take-le}
 use Rattle.std.proofs.lemmas.Option.{none-some}
-use Rattle.std.proofs.lemmas.Bool.{cases_lt, true≢false}
+use Rattle.std.proofs.lemmas.Bool.{cases_lt}
 use Rattle.domain.specs.Meaning.{Meaning, Limits}
 use Rattle.plans.specs.Plans.{after, RunsAll, cost_of, PlanFor, CompletePlan, Cheapest, LeastCost}
 use Rattle.plans.specs.Reachable.{AtMost}
+use Rattle.plans.proofs.Running.{is_action}
 use Rattle.table.specs.declared.row.Node.{Node}
 use Rattle.search.specs.Answers.{ShownKind, Shown, Found}
 use Rattle.search.specs.Solved.{Solved, Ends, CheapestEnd, PathTo, Written}
@@ -16,16 +17,13 @@ use Rattle.search.specs.Ways.{KnownAt}
 use Rattle.search.proofs.Paths.{path_to, states_of, states_length}
 
 module _ (m : Meaning) (limits : Limits m) (nodes : ℕ → Node) (n : ℕ) (solved : Solved m nodes n) where
-  is_action : (s a : ℕ) → m.runs s a ≡ true → a < m.actions
-  is_action s a r = ⊎_elim (λ h. h) (λ h. absurd (true≢false (sym r ∙ limits.runs_no_action s a h))) (cases_lt a m.actions)
-
   -- from a known state every list leads to a known state, at no more than it costs
   leads_on : (plan : List ℕ) (s c : ℕ) → KnownAt nodes n s c → RunsAll m s plan → KnownAt nodes n (after m s plan) (c + cost_of m plan)
   leads_on [] s c k r = subst (KnownAt nodes n s) (sym (add-zero c)) k
   leads_on (a ∷ plan) s c k r =
       let i = k.0 in
       let same : (nodes i).state ≡ s = k.1.1.0 in
-      let step = solved.closed i k.1.0 a (is_action s a r.0) (ap (λ t. m.runs t a) same ∙ r.0) in
+      let step = solved.closed i k.1.0 a (is_action m limits s a r.0) (ap (λ t. m.runs t a) same ∙ r.0) in
       let there : KnownAt nodes n (m.next s a) (c + m.cost a) = (step.0, (step.1.0, (step.1.1.0 ∙ ap (λ t. m.next t a) same, omega (arith, step.1.1.1, k.1.1.1)))) in
       subst (KnownAt nodes n (after m (m.next s a) plan)) (add_assoc c (m.cost a) (cost_of m plan)) (leads_on plan (m.next s a) (c + m.cost a) there r.1)
 

@@ -1,25 +1,11 @@
 -- The ways that the rows of a table tell, as lists of actions.
-use Rattle.std.proofs.Common.{◌≡◌, ℕ, zero, suc, ◌+◌, ◌-◌, ◌<◌, ◌≤◌, List, [], ◌∷◌, ◌++◌, length, get_or, sym, refl, ap, ◌∙◌, subst, ⊎_elim, add-zero, add_assoc, zero-add, arith}
+use Rattle.std.proofs.Common.{◌≡◌, ℕ, zero, suc, ◌+◌, ◌-◌, ◌<◌, ◌≤◌, List, [], ◌∷◌, ◌++◌, length, get_or, sym, refl, ap, ◌∙◌, subst, ⊎_elim, add-zero, arith}
 use Rattle.domain.specs.Meaning.{Meaning}
-use Rattle.plans.specs.Plans.{after, RunsAll, cost_of}
 use Rattle.plans.specs.Reachable.{Reachable, MoreThan}
+use Rattle.plans.proofs.Running.{after_append, runs_append, cost_append}
 use Rattle.table.specs.declared.row.Node.{Node}
 use Rattle.search.specs.Solved.{PathTo}
 use Rattle.search.specs.Ways.{Begins, Follows, Way, OneEach}
-
--- Lists of actions one after another.
-module _ (m : Meaning) where
-  pub after_append : (p q : List ℕ) (s : ℕ) → after m s (p ++ q) ≡ after m (after m s p) q
-  after_append [] q s = refl
-  after_append (a ∷ p) q s = after_append p q (m.next s a)
-
-  pub runs_append : (p q : List ℕ) (s : ℕ) → RunsAll m s p → RunsAll m (after m s p) q → RunsAll m s (p ++ q)
-  runs_append [] q s r t = t
-  runs_append (a ∷ p) q s r t = (r.0, runs_append p q (m.next s a) r.1 t)
-
-  pub cost_append : (p q : List ℕ) → cost_of m (p ++ q) ≡ cost_of m p + cost_of m q
-  cost_append [] q = sym (zero-add (cost_of m q))
-  cost_append (a ∷ p) q = ap (λ n. m.cost a + n) (cost_append p q) ∙ sym (add_assoc (m.cost a) (cost_of m p) (cost_of m q))
 
 module _ (m : Meaning) (nodes : ℕ → Node) (n : ℕ) where
   -- one action on
