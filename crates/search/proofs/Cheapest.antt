@@ -1,9 +1,8 @@
 -- The cheapest of the rows that pass a test is the cheapest of the list of those that passed.
-use Rattle.std.proofs.Common.{◌≡◌, ℕ, zero, suc, ◌<◌, ◌≤◌, Bool, true, false, cond, eqb, ltb, List, [], ◌∷◌, length, get_or, take, ◌↔◌, Some, None, Option, IfSome, IsSomeAnd, IsTrue, MatchOption, Less, Equal, Greater, sym, refl, ap, ◌∙◌, subst, arith, rules}
+use Rattle.std.proofs.Common.{◌≡◌, ℕ, zero, suc, ◌<◌, ◌≤◌, Bool, true, false, cond, List, [], ◌∷◌, length, get_or, take, ◌↔◌, Some, None, Option, IfSome, IsSomeAnd, IsTrue, MatchOption, sym, ap, ◌∙◌, subst, arith, rules}
 use Rattle.std.specs.List.{All, filter}
 use Rattle.std.specs.Option.{option_map}
-use Rattle.std.specs.Ordering.{nat_cmp, is_lt}
-use Rattle.std.proofs.lemmas.Bool.{false≢true, ltb-false}
+use Rattle.std.proofs.lemmas.Bool.{false≢true}
 use Rattle.std.proofs.lemmas.List.{get_or_read, get_or-take, length-take-le}
 use Rattle.std.proofs.lemmas.List.Elements.{filter_passes, All-filter}
 use denote.Ref.{Bor}
@@ -89,13 +88,6 @@ read_any (Some z) x y reads any = cc
 pub stands : (rows : List Row) (items : List Item) (i : ℕ) (o : Option Item) → IfSome o (λ x. x.0 ≡ i) → option_map (λ (y : Bor Row). y.now) (option_map (λ (x : Item). x.1) o) ≡ Some (at rows i) → ((d : Item) → option_map (λ y. y) o ≡ Some (get_or items i d)) → Stands rows items i
 stands rows items i None number row reads = absurd (search rules)
 stands rows items i (Some x) number row reads = record { item = x; number = number; row = cc; here = let read = reads x in cc }
-
-no_less : (a b : Bool) → is_lt (cond a Less (cond b Equal Greater)) ≡ false → a ≡ false
-no_less true b h = h
-no_less false b h = refl
-
-pub not_lt : (a b : ℕ) → is_lt (nat_cmp a b) ≡ false → b ≤ a
-not_lt a b h = ltb-false a b (no_less (ltb a b) (eqb a b) h)
 
 -- the cheapest of the first rows as one of them all, by another test of their states
 module _ (rows : List Row) (n : ℕ) (fits : n ≤ length rows) (such : ℕ → Bool) (Such : ℕ → Type 0) (same : (s : ℕ) → IsTrue (such s) ↔ Such s) where

@@ -1,5 +1,5 @@
 -- The ways that the rows of a table tell, as lists of actions.
-use Rattle.std.proofs.Common.{◌≡◌, ℕ, zero, suc, ◌+◌, ◌-◌, ◌<◌, ◌≤◌, List, [], ◌∷◌, ◌++◌, length, get_or, sym, refl, ap, ◌∙◌, subst, ⊎_elim, add-zero, arith}
+use Rattle.std.proofs.Common.{◌≡◌, ℕ, zero, suc, ◌+◌, ◌-◌, ◌<◌, ◌≤◌, List, [], ◌∷◌, ◌++◌, length, get_or, sym, refl, ap, ◌∙◌, subst, ⊎_elim, arith}
 use Rattle.domain.specs.Meaning.{Meaning}
 use Rattle.plans.specs.Reachable.{Reachable, MoreThan}
 use Rattle.plans.proofs.Running.{after_append, runs_append, cost_append}
@@ -13,7 +13,7 @@ module _ (m : Meaning) (nodes : ℕ → Node) (n : ℕ) where
   path_on v plan f p = record {
     runs = runs_append m plan (f.step.action ∷ []) m.start p.runs (ap (λ s. m.runs s f.step.action) p.state ∙ f.runs, tt);
     state = after_append m plan (f.step.action ∷ []) m.start ∙ ap (λ s. m.next s f.step.action) p.state ∙ f.next;
-    cost = cost_append m plan (f.step.action ∷ []) ∙ ap (λ c. c + (m.cost f.step.action + 0)) p.cost ∙ ap (λ c. (nodes f.step.from).cost + c) (add-zero (m.cost f.step.action)) ∙ sym f.cost;
+    cost = omega (arith, cost_append m plan (f.step.action ∷ []), p.cost, f.cost);
   }
 
   path_begins : (v : Node) → Begins m v → PathTo m v []

@@ -1,8 +1,9 @@
 use Rattle.std.proofs.Common.{◌≡◌, ℕ, ◌<◌, length, rules, arith, sym, ap, ◌∙◌, get_or, Some, None, MatchOption}
 use Rattle.std.specs.Option.{option_map}
 use Rattle.std.specs.Slice.Iter.{iter_rest}
+use Rattle.std.proofs.lemmas.Map.Keys.{ge_from_not_lt}
 use Rattle.table.specs.Rows.{blank_row}
-use Rattle.search.proofs.Cheapest.{item_test, cost_of_item, Stands, stands, read_all, read_any, not_lt, cheapest}
+use Rattle.search.proofs.Cheapest.{item_test, cost_of_item, Stands, stands, read_all, read_any, cheapest}
 use Rattle.search.proofs.ends.cheapest_end.Goals as goal
 
 pub returns-clause-cheapest : goal.returns-clause-cheapest
@@ -35,6 +36,6 @@ returns-clause-cheapest g c such decides =
       least = λ k d low.
           let key = read_all (p.at k) _ _ (p.reads k d (omega (arith, p.long))) (keys.2 k) in
           let its : key.0 ≡ cost_of_item (get_or p.items k d) = search rules in
-          omega (arith, own, its, not_lt key.0 keys.0 key.2);
+          omega (arith, own, its, ge_from_not_lt key.0 keys.0 key.2);
     })
     picked.3 mapped
