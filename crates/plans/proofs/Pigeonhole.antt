@@ -1,34 +1,20 @@
 -- Different states that all stand in a list are no more than the list is long; so at most n states and more than n exclude each other.
-use Rattle.std.proofs.Common.{◌≡◌, ℕ, suc, ◌+◌, ◌-◌, ◌<◌, ◌≤◌, List, [], ◌∷◌, length, get_or, sym, ◌∙◌, ⊎_elim, arith}
-use Rattle.std.specs.List.{ContainsAt, remove}
-use Rattle.std.proofs.lemmas.List.Edits.{length-remove, get_or-remove_below, get_or-remove_above}
-use Rattle.std.proofs.lemmas.Bool.{cases_lt, cases_eq}
+use Rattle.std.proofs.Common.{◌≡◌, ℕ, true, eqb, ◌∙◌, subst, arith}
+use Rattle.std.specs.List.{IsDistinct}
+use Rattle.std.specs.Set.{is_member}
+use Rattle.std.proofs.lemmas.Bool.Decides.{Decides-eqb}
+use Rattle.std.proofs.lemmas.Cmp.{nat_eq_equiv}
+use Rattle.std.proofs.lemmas.List.{get_or_default}
+use Rattle.std.proofs.lemmas.List.Elements.{Contains-from_at}
+use Rattle.std.proofs.lemmas.Map.Made.{is_member-Decides, IsDistinct-from_AllPairs, length-le_from_is_member}
 use Rattle.domain.specs.Meaning.{Meaning}
-use Rattle.plans.specs.Reachable.{NeverBoth}
-
--- another number stays in the list where one is removed
-stays : (ys : List ℕ) (k x z : ℕ) → k < length ys → get_or ys k 0 ≡ x → (x ≡ z → ⊥) → ContainsAt ys z → ContainsAt (remove ys k) z
-stays ys k x z low here other h =
-    let j = h.0 in
-    let size = length-remove ys k low in
-    ⊎_elim
-    (λ l. (j, omega (arith, h.1), λ d. get_or-remove_below ys k d j l low ∙ h.2 d))
-    (λ l. ⊎_elim
-    (λ e. absurd (other (sym here ∙ (λ i. get_or ys (e i) 0) ∙ h.2 0)))
-    (λ e.
-    let back : j - 1 + 1 ≡ j = omega arith in
-    (j - 1, omega (arith, h.1), λ d. get_or-remove_above ys k d (j - 1) (omega arith) low ∙ (λ i. get_or ys (back i) d) ∙ h.2 d))
-    (cases_eq k j))
-    (cases_lt j k)
-
-fits : (xs ys : List ℕ) → ((i : ℕ) → i < length xs → ContainsAt ys (get_or xs i 0)) → ((i j : ℕ) → i < j → j < length xs → get_or xs i 0 ≡ get_or xs j 0 → ⊥) → length xs ≤ length ys
-fits [] ys all apart = omega arith
-fits (x ∷ xs) ys all apart =
-    let first = all 0 (omega arith) in
-    let rest = fits xs (remove ys first.0)
-    (λ i l. stays ys first.0 x (get_or xs i 0) first.1 (first.2 0) (apart 0 (suc i) (omega arith) (omega arith)) (all (suc i) (omega arith)))
-    (λ i j l h. apart (suc i) (suc j) (omega arith) (omega arith)) in
-    omega (arith, length-remove ys first.0 first.1, rest)
+use Rattle.plans.specs.Reachable.{Reachable, NeverBoth}
 
 pub never_both : (d : Meaning) (n : ℕ) → NeverBoth d n
-never_both d n few many = omega (arith, few.few, many.many, fits many.states few.states (λ i l. few.all (get_or many.states i 0) (many.each i l)) many.apart)
+never_both d n few many =
+    let distinct : IsDistinct eqb many.states = IsDistinct-from_AllPairs Decides-eqb many.states (λ i j x l h e. many.apart i j l h (get_or_default many.states i 0 x (omega arith) ∙ e ∙ get_or_default many.states j x 0 h)) in
+    let among : (s : ℕ) → is_member eqb many.states s ≡ true → is_member eqb few.states s ≡ true = λ s m.
+    let k = (is_member-Decides Decides-eqb many.states s).0 m in
+    let reached = subst (Reachable d) (get_or_default many.states k.0 0 s k.1 ∙ k.2) (many.each k.0 k.1) in
+    (is_member-Decides Decides-eqb few.states s).1 (Contains-from_at few.states s (few.all s reached)) in
+    omega (arith, few.few, many.many, length-le_from_is_member nat_eq_equiv many.states few.states distinct among)
