@@ -1,19 +1,9 @@
 // The least cost of each goal, and a cheapest plan.
+use crate::refusals_in_words::Refused;
 use domain::Domain;
-use domain::fault::Numbered;
 use reports::numbers::numbers;
-use search::fault::SearchFault;
 use std::alloc::{AllocError, Global};
 use tables::tables::Tables;
-
-// What is asked of a search.
-fn question(fault: SearchFault) -> &'static str {
-    match fault {
-        SearchFault::Goal => "is the goal below the count of goals?",
-        SearchFault::Tables => "are the tables long enough?",
-        SearchFault::Rows => "are the reachable states no more than the rows?",
-    }
-}
 
 fn goal_in_words<D: Domain>(
     heap: Global,
@@ -27,11 +17,7 @@ fn goal_in_words<D: Domain>(
             format!(in heap; "goal {goal} costs {cost}: actions {actions}")
         }
         Ok((None, _)) => format!(in heap; "goal {goal} has no plan"),
-        Err(fault) => {
-            let number = fault.number();
-            let asked = question(fault);
-            format!(in heap; "goal {goal}: refused {number}: {asked}")
-        }
+        Err(fault) => format!(in heap; "goal {goal}: {}", Refused(fault)),
     }
 }
 

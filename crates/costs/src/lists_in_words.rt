@@ -1,7 +1,7 @@
 // A list of actions beside a domain, judged by a log. Places of the list and entries of the log count from 0.
+use crate::refusals_in_words::Refused;
 use anyhow::anyhow;
 use domain::Domain;
-use domain::fault::{LogFault, Numbered};
 use judge::carrying::carried;
 use judge::course::Course;
 use judge::marks::admits;
@@ -9,16 +9,6 @@ use logs::log::ObservationLog;
 use reports::folders::{bytes_in, bytes_or_empty};
 use reports::numbers::numbers;
 use std::alloc::{AllocError, Global};
-
-// What is asked of a log.
-fn question(fault: LogFault) -> &'static str {
-    match fault {
-        LogFault::Action => "is every entry below the count of actions?",
-        LogFault::Width => "is the domain at most 55 wide?",
-        LogFault::Full => "has the log at most 20 entries?",
-        LogFault::Empty => "is there an entry?",
-    }
-}
 
 // A list of actions to be judged beside a domain by a log.
 #[derive(Drop)]
@@ -100,13 +90,6 @@ fn say_list(rt: &HostRuntime, list: &[u8], entries: &[u8]) -> anyhow::Result<()>
     Ok(())
 }
 
-fn say_refused(rt: &HostRuntime, fault: LogFault) -> anyhow::Result<()> {
-    let number = fault.number();
-    let asked = question(fault);
-    println!(rt; "  refused {number}: {asked}")?;
-    Ok(())
-}
-
 // Without a list there is nothing to judge.
 pub(crate) fn judge_list<D: Domain>(
     rt: &HostRuntime,
@@ -124,6 +107,9 @@ pub(crate) fn judge_list<D: Domain>(
             let log = &log;
             Judged { domain, log, list }.say(rt)
         }
-        Err(fault) => say_refused(rt, fault),
+        Err(fault) => {
+            println!(rt; "  {}", Refused(fault))?;
+            Ok(())
+        }
     }
 }

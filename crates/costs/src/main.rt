@@ -5,6 +5,7 @@
 mod costs_in_words;
 mod files_in_words;
 mod lists_in_words;
+mod refusals_in_words;
 
 use crate::files_in_words::say_folder;
 use reports::folders::folders;
