@@ -7,6 +7,7 @@ use reports::folders::bytes_or_empty;
 use reports::refusal::Refusal;
 
 // A domain's file that is missing stands for an empty one.
+// by hand: a function shared by the programs would take a closure, and need a requires that it can be called
 pub(crate) fn say_folder(rt: &HostRuntime, folder: &str) -> anyhow::Result<()> {
     let bytes = bytes_or_empty(rt, folder, "domain.bin")?;
     println!(rt; "{folder}")?;

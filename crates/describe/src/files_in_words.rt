@@ -41,6 +41,7 @@ fn say_file(rt: &HostRuntime, bytes: &[u8], domain: &AnyDomain) -> anyhow::Resul
 }
 
 // A file that is missing stands for an empty one.
+// by hand: a function shared by the programs would take a closure, and need a requires that it can be called
 pub(crate) fn describe(rt: &HostRuntime, folder: &str) -> anyhow::Result<()> {
     let bytes = bytes_or_empty(rt, folder, "domain.bin")?;
     println!(rt; "{folder}")?;
