@@ -6,20 +6,16 @@ mod answers_in_words;
 mod rounds;
 
 use crate::rounds::search_file;
-use anyhow::anyhow;
+use anyhow::Context;
 use std::env;
 
-fn run(rt: &HostRuntime) -> anyhow::Result<()> {
-    let mut words = env::args(rt)?.skip(1);
-    let Some(folder) = words.next() else {
-        return Err(anyhow!("a folder and a number of rounds are wanted"));
-    };
-    let Some(rounds) = words.next() else {
-        return Err(anyhow!("a number of rounds is wanted after the folder"));
-    };
-    search_file(rt, folder.as_str(), rounds.as_str().parse::<u32>()?)
-}
-
 fn main(rt: HostRuntime) -> anyhow::Result<()> {
-    run(&rt)
+    let mut words = env::args(&rt)?.skip(1);
+    let folder = words
+        .next()
+        .context("a folder and a number of rounds are wanted")?;
+    let rounds = words
+        .next()
+        .context("a number of rounds is wanted after the folder")?;
+    search_file(&rt, folder.as_str(), rounds.as_str().parse::<u32>()?)
 }

@@ -9,16 +9,25 @@ use std::fs;
 use tables::tables::Tables;
 use watched::watched::Watched;
 
+// A round whose answers are printed.
+fn say_round<D: Domain>(rt: &HostRuntime, domain: &D, tables: &mut Tables) -> anyhow::Result<()> {
+    for goal in 0..domain.goal_count() {
+        let found = tables.least_costs(domain, goal);
+        say(rt, goal, found, tables.plan())?;
+    }
+    Ok(())
+}
+
 // Searches for every goal in every round; the answers of the last round are printed.
 fn search_rounds<D: Domain>(rt: &HostRuntime, domain: &D, rounds: u32) -> anyhow::Result<()> {
     let mut tables = Tables::take(rt.alloc(), Tables::MOST)?;
-    for round in 0..rounds {
+    for _ in 1..rounds {
         for goal in 0..domain.goal_count() {
-            let found = tables.least_costs(domain, goal);
-            if round + 1 == rounds {
-                say(rt, goal, found, tables.plan())?;
-            }
+            let _ = tables.least_costs(domain, goal);
         }
+    }
+    if rounds > 0 {
+        say_round(rt, domain, &mut tables)?;
     }
     Ok(())
 }
@@ -31,7 +40,7 @@ pub(crate) fn search_file(rt: &HostRuntime, folder: &str, rounds: u32) -> anyhow
         Ok(domain) => search_rounds(rt, &Watched::new(domain), rounds),
         Err(LoadFault::Read(fault)) => {
             let number = fault.number();
-            Err(anyhow!(format!(in rt.alloc(); "domain.bin is refused with {number}")?))
+            Err(anyhow!("domain.bin is refused with {number}"))
         }
         Err(LoadFault::Room(fault)) => Err(fault.into()),
     }
