@@ -1,4 +1,4 @@
-// The folders that a program is asked about, and their files. No clause can say what a file holds.
+// The folders that a program is asked about, and their files.
 ghost use Rattle.std.specs.Prelude.{◌≢◌, ◌≤◌, IfOk, IfErr, vec_len};
 ghost use Rattle.std.specs.IoError.{error_kind};
 ghost use Rattle.std.specs.declared.io.ErrorKind.TheVariants.{NotFound};
@@ -18,7 +18,7 @@ pub fn folders<R: Env + AllocGlobal>(rt: &R) -> io::Result<Vec<String>>
     Ok(folders)
 }
 
-// The bytes of a file of the folder, if it has that file. A missing file is no error.
+// The bytes of a file of the folder, or none where the folder has no such file. No clause can say what a file holds: what is promised is that a missing file is no error.
 pub fn bytes_in<R: Files + AllocGlobal>(
     rt: &R,
     folder: &str,

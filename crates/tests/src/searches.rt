@@ -67,12 +67,7 @@ fn logs_on_the_card(rt: HostRuntime) -> Result<(), Fail> {
     let heap = rt.alloc();
     let files = sample_files();
     for (file, log, goal, found) in [
-        (
-            &files.calibration,
-            &[0u8; 0] as &[u8],
-            2,
-            (Some(7), Some(7)),
-        ),
+        (&files.calibration, &[] as &[u8], 2, (Some(7), Some(7))),
         (&files.calibration, &[1], 1, (Some(4), Some(5))),
         (&files.calibration, &[0], 0, (Some(3), Some(4))),
         (&files.calibration, &[4], 0, (Some(3), Some(3))),
