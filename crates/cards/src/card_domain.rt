@@ -71,6 +71,7 @@ impl Domain for Card {
         }
     }
 
+    // The cost and the mark are asked for by the same lines as a field map's: a trait for the two would be longer than these lines.
     fn cost(&self, action: u8) -> u16
         ensures value { result ≡ (meaning_of (contents self.now)).cost action }
         ensures own { OwnCost (contents self.now) action result }

@@ -8,8 +8,11 @@ use crate::numbers::{has_bits, write_number};
 
 #[derive(Clone, Copy, PartialEq, Eq, Debug)]
 pub enum Field {
+    // a set of fluents: bit i of the value tells of fluent i
     Set,
+    // a place, by its number
     Place,
+    // the cost of an action
     Cost,
 }
 

@@ -39,6 +39,7 @@ impl Kind {
         }
     }
 
+    // The field that the start is written as; unlike a record's, it is never left out.
     pub(crate) fn start(self) -> Field
         ensures { result ≡ start_of self }
     {

@@ -13,6 +13,7 @@ pub trait Record: Sized {
         ensures { result ≡ made (record { values = values.now; marked = marked }) };
 
     // The value of a field, and 0 past the last one.
+    // A field is named by its place in the record, as its bit is: each kind of record has fields of its own.
     fn value(&self, field: usize) -> u64
         ensures { result ≡ slice_index (written self.now).values field };
 

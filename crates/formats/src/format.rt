@@ -14,6 +14,7 @@ pub trait Format {
 
     type Goal: Record + Drop;
 
+    // The kind of file stands twice: a constant for code, and a ghost member, equal to it, for clauses.
     const KIND: Kind;
 
     ghost KIND: { Kind };

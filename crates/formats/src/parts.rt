@@ -39,6 +39,7 @@ impl<F: Format> Parts<F> {
         ensures value { result ≡ write_outcome (parts_file F.KIND F.Action.written F.Goal.written (contents_of self.now.file)) place.old }
         ensures place { place.new ≡ place_after (parts_file F.KIND F.Action.written F.Goal.written (contents_of self.now.file)) place.old }
     {
+        // taken apart by hand: `write_file` takes slices too, and a file owns its vectors
         let file = &self.file;
         write_file(
             F::KIND,

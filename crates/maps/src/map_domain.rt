@@ -64,6 +64,7 @@ impl Domain for FieldMap {
         }
     }
 
+    // The cost and the mark are asked for by the same lines as a card's: a trait for the two would be longer than these lines.
     fn cost(&self, action: u8) -> u16
         ensures value { result ≡ (meaning_of (contents self.now)).cost action }
         ensures own { OwnCost (contents self.now) action result }
