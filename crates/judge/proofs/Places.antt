@@ -69,27 +69,25 @@ count_low log k [] h = h
 count_low log k (a ∷ list) h = count_low log (advance log k a) list (advance_low log k a h)
 
 module _ (log : List ℕ) (n : ℕ) (fits : n ≤ length log) where
-  front_length : length (take n log) ≡ n
-  front_length = length-take-le n log fits
-
   -- below n a beginning of length n is followed as the log is
   same_advance : (k a : ℕ) → k < n → advance (take n log) k a ≡ advance log k a
-  same_advance k a h = let same = get_or-take n log k 0 h in let size = front_length in grind (arith, nat_tests)
+  same_advance k a h = let same = get_or-take n log k 0 h in let size = length-take-le n log fits in grind (arith, nat_tests)
 
   front_count : (k : ℕ) (list : List ℕ) → k ≤ n → advance_all (take n log) k list ≤ advance_all log k list
   front_count k [] h = omega arith
   front_count k (a ∷ list) h =
+      let size : length (take n log) ≡ n = length-take-le n log fits in
       ⊎_elim
       (λ l.
-      let low : advance (take n log) k a ≤ n = omega (arith, front_length, advance_low (take n log) k a (omega (arith, front_length))) in
+      let low : advance (take n log) k a ≤ n = omega (arith, size, advance_low (take n log) k a (omega (arith, size))) in
       let grown = same_advance k a l in
       omega (arith, ap (λ m. advance_all (take n log) m list) grown, front_count (advance log k a) list (omega arith)))
-      (λ l. omega (arith, front_length, count_low (take n log) k (a ∷ list) (omega (arith, front_length)), count_high log k (a ∷ list)))
+      (λ l. omega (arith, size, count_low (take n log) k (a ∷ list) (omega (arith, size)), count_high log k (a ∷ list)))
       (cases_lt k n)
 
 pub none_longer : (log list : List ℕ) → NoneLonger log list (advance_all log 0 list)
 none_longer log list n fits carries =
-    omega (arith, front_length log n fits, carries_counted (take n log) list 0 (omega arith) carries, front_count log n fits 0 list (omega arith))
+    omega (arith, length-take-le n log fits, carries_counted (take n log) list 0 (omega arith) carries, front_count log n fits 0 list (omega arith))
 
 -- the first n actions of a list, followed: the count, its places, and the rest of the table as it was before
 pub record Followed (log list before places : List ℕ) (n count : ℕ) : Type 0 where

@@ -14,7 +14,7 @@ use Rattle.search.specs.Entries.{entry_of, ordered, order, noted, apart, Kept}
 use Rattle.search.specs.Searching.{Sound, Waiting, Grew, Searching, Offered, Reached}
 use Rattle.search.specs.Ways.{KnownAt}
 use Rattle.search.proofs.Nodes.{grew_more, sound_more, waits_still, grew_cheaper, sound_cheaper}
-use Rattle.search.proofs.WaitingLists.{waiting_pushed, place_within, place_cost, waiting_lowered, cheaper_low}
+use Rattle.search.proofs.WaitingLists.{nodes_kept, waiting_pushed, place_within, place_cost, waiting_lowered, cheaper_low}
 
 pub kept_indexed : (rows rows' : List Row) (n : ℕ) → Kept rows rows' → Indexed rows n → Indexed rows' n
 kept_indexed rows rows' n kept = indexed_over rows rows' n kept.long (λ k. ap (λ v. v.state) (kept.nodes k)) kept.links
@@ -34,16 +34,13 @@ is_lower m rows n list w level i v s offered low cheaper =
     }
 
 module _ (m : Meaning) (level : ℕ) (rows rows' rows'' : List Row) (n : ℕ) (list list' : List Entry) (w : ℕ) (v : Node) (kept : Kept rows' rows'') (s : Searching m rows n list w level) (offered : Offered m (node rows) n w level v) where
-  nodes_same : node rows'' ≡ node rows'
-  nodes_same = λ i k. kept.nodes k i
-
   pub discovered : (n' w' : ℕ) (x : Entry) → n' ≡ n + 1 → x ≡ entry_of v n → Found rows n v.state None → Added rows n v rows' → Pushed ordered w x w' list list' → TracksPushed noted apart w x w' list list' rows' rows'' → Reached m level rows n w v rows'' n' list' w'
   discovered n' w' x more is absent added pushed_x tracks_x =
       let pushed = subst (λ y. Pushed ordered w y w' list list') is pushed_x in
       let tracks = subst (λ y. TracksPushed noted apart w y w' list list' rows' rows'') is tracks_x in
-      let grew : Grew (node rows) n w (node rows'') (n + 1) (w + 1) = subst (λ f. Grew (node rows) n w f (n + 1) (w + 1)) (sym nodes_same) (grew_more (node rows) (node rows') n v added.here added.others m n w level refl offered absent s.sound) in
-      let sound : Sound m (node rows'') (n + 1) (w + 1) level = subst (λ f. Sound m f (n + 1) (w + 1) level) (sym nodes_same) (sound_more (node rows) (node rows') n v added.here added.others m n w level refl offered absent s.sound) in
-      let known : KnownAt (node rows'') (n + 1) v.state v.cost = subst (λ f. KnownAt f (n + 1) v.state v.cost) (sym nodes_same) (n, (omega arith, (ap (λ x. x.state) added.here, omega (arith, ap (λ x. x.cost) added.here)))) in
+      let grew : Grew (node rows) n w (node rows'') (n + 1) (w + 1) = subst (λ f. Grew (node rows) n w f (n + 1) (w + 1)) (nodes_kept rows' rows'' kept) (grew_more (node rows) (node rows') n v added.here added.others m n w level refl offered absent s.sound) in
+      let sound : Sound m (node rows'') (n + 1) (w + 1) level = subst (λ f. Sound m f (n + 1) (w + 1) level) (nodes_kept rows' rows'' kept) (sound_more (node rows) (node rows') n v added.here added.others m n w level refl offered absent s.sound) in
+      let known : KnownAt (node rows'') (n + 1) v.state v.cost = subst (λ f. KnownAt f (n + 1) v.state v.cost) (nodes_kept rows' rows'' kept) (n, (omega arith, (ap (λ x. x.state) added.here, omega (arith, ap (λ x. x.cost) added.here)))) in
       let all : Reached m level rows n w v rows'' (n + 1) list' (w + 1) = record {
         searching = record {
           small = omega (arith, s.small, kept.long, added.long);
@@ -69,10 +66,10 @@ module _ (m : Meaning) (level : ℕ) (rows rows' rows'' : List Row) (n : ℕ) (l
           small = omega (arith, s.small, kept.long, put.long);
           long = omega (arith, s.long, kept.long, put.long, lowered.long);
           indexed = kept_indexed rows' rows'' n kept (put_indexed rows rows' i v put n (omega (arith, low, s.indexed.fits)) same s.indexed);
-          sound = subst (λ f. Sound m f n w level) (sym nodes_same) (sound_cheaper (node rows) (node rows') i v here others m n w level low offered same cheaper s.sound);
+          sound = subst (λ f. Sound m f n w level) (nodes_kept rows' rows'' kept) (sound_cheaper (node rows) (node rows') i v here others m n w level low offered same cheaper s.sound);
           waiting = waiting_lowered rows rows' rows'' n i v (take w list) (take w list') s.indexed.fits low (waits_still m (node rows) n w level i v low offered cheaper s.sound) put offered.unsettled kept s.waiting lowered.entries (lowered.ordered order) tracks;
         };
-        grew = subst (λ f. Grew (node rows) n w f n w) (sym nodes_same) (grew_cheaper (node rows) (node rows') i v here others m n w level low offered same cheaper s.sound);
-        known = subst (λ f. KnownAt f n v.state v.cost) (sym nodes_same) (i, (low, (ap (λ x. x.state) here, omega (arith, ap (λ x. x.cost) here))));
+        grew = subst (λ f. Grew (node rows) n w f n w) (nodes_kept rows' rows'' kept) (grew_cheaper (node rows) (node rows') i v here others m n w level low offered same cheaper s.sound);
+        known = subst (λ f. KnownAt f n v.state v.cost) (nodes_kept rows' rows'' kept) (i, (low, (ap (λ x. x.state) here, omega (arith, ap (λ x. x.cost) here))));
         same_length = kept.long ∙ put.long;
       }

@@ -1,10 +1,12 @@
 -- The waiting list stays that of the rows that wait, as entries come, get cheaper and are taken.
-use Rattle.std.proofs.Common.{◌≡◌, ℕ, zero, suc, ◌+◌, ◌<◌, ◌≤◌, Bool, true, false, cond, eqb, ltb, ◌⊎◌, List, [], ◌∷◌, length, get_or, set, Ordering, Less, Equal, Greater, sym, refl, ap, ◌∙◌, subst, inl, inr, ⊎_elim, arith}
+use Rattle.std.proofs.Common.{◌≡◌, ℕ, suc, ◌+◌, ◌<◌, ◌≤◌, Bool, true, false, cond, eqb, ltb, List, [], ◌∷◌, length, get_or, set, Ordering, Less, Equal, Greater, sym, refl, ap, ◌∙◌, subst, ⊎_elim, arith}
 use Rattle.std.specs.Ordering.{is_lt, is_gt, ordering_then}
 use Rattle.std.specs.List.Sorted.{IsPermutation}
 use Rattle.std.specs.List.{ContainsAt, AllByRecursion}
 use Rattle.std.proofs.ByRecursion.{All-weaker, All-get_or, All-from_get_or, has_append_right, all_shuffled, has_shuffled}
 use Rattle.std.proofs.lemmas.List.{length-set, get_or-set_same, get_or-set_other}
+use Rattle.std.proofs.lemmas.List.Elements.{Contains-from_at, at_from_Contains}
+use Rattle.std.proofs.lemmas.Map.Made.{Contains-tail}
 use Rattle.std.proofs.lemmas.Bool.{cases_eq, lt-ltb, ltb-false, true≢false}
 use Rattle.heap.specs.Order.{HeapOrder, Least}
 use Rattle.heap.specs.Tracking.{Apart, Noted, NotedBut, Tracked}
@@ -39,15 +41,15 @@ all_wait_shuffled f n xs ys s all i h e = let x = all i h e in (x.0, (has_shuffl
 noted_over : (rows rows' : List Row) (x : Entry) (k : ℕ) → length rows' ≡ length rows → ((i : ℕ) → (at rows' i).place ≡ (at rows i).place) → noted rows x k → noted rows' x k
 noted_over rows rows' x k long places h low = places x.row ∙ h (subst (λ n. x.row < n) long low)
 
-nodes_same : (rows rows' : List Row) → Kept rows rows' → node rows' ≡ node rows
-nodes_same rows rows' kept = λ i k. kept.nodes k i
+pub nodes_kept : (rows rows' : List Row) → Kept rows rows' → node rows ≡ node rows'
+nodes_kept rows rows' kept = λ i k. sym (kept.nodes k) i
 
 -- the rows after a heap function noted the places anew
 module _ (rows rows' : List Row) (n : ℕ) (xs ys : List Entry) (kept : Kept rows rows') (shuffled : IsPermutation xs ys) (each : AllByRecursion (Waits (node rows) n) xs) (all : AllWait (node rows) n xs) (tracked : Tracked noted apart rows' ys) (ordered : HeapOrder order ys) where
   waiting_noted : Waiting rows' n ys
   waiting_noted = record {
-    each = subst (λ f. AllByRecursion (Waits f n) ys) (sym (nodes_same rows rows' kept)) (all_shuffled (Waits (node rows) n) xs ys shuffled each);
-    all = subst (λ f. AllWait f n ys) (sym (nodes_same rows rows' kept)) (all_wait_shuffled (node rows) n xs ys shuffled all);
+    each = subst (λ f. AllByRecursion (Waits f n) ys) (nodes_kept rows rows' kept) (all_shuffled (Waits (node rows) n) xs ys shuffled each);
+    all = subst (λ f. AllWait f n ys) (nodes_kept rows rows' kept) (all_wait_shuffled (node rows) n xs ys shuffled all);
     tracked = tracked;
     ordered = ordered;
   }
@@ -174,18 +176,13 @@ module _ (rows rows' rows'' : List Row) (n : ℕ) (x : Entry) (v : Node) (xs ys 
       let y = get_or ys k no_entry in
       waits_over (node rows) (node rows'') n n (omega arith) y (node_away y.row (apart_both (suc k) 0 no_entry (omega arith) (omega arith) (omega arith))) (All-get_or (Waits (node rows) n) ys k no_entry h each_both.1))
 
-  in_tail : (y : Entry) → ContainsAt (x ∷ ys) y → (y ≡ x) ⊎ ContainsAt ys y
-  in_tail y (zero, h, e) = inl (sym (e no_entry))
-  in_tail y (suc k, h, e) = inr (k, omega arith, e)
-
   all_left : AllWait (node rows'') n ys
   all_left i h e =
       let away : i ≡ x.row → ⊥ = λ same. true≢false (sym settled ∙ sym (ap (λ y. y.settled) (put.here (omega (arith, each_both.0.row, kept.long, fits)))) ∙ ap (λ r. (node rows'' r).settled) (sym same) ∙ e) in
       let y = waiting.all i h (sym (ap (λ z. z.settled) (node_away i away)) ∙ e) in
-      ⊎_elim
-      (λ same. absurd (away (sym y.1.1 ∙ ap (λ (z : Entry). z.row) same)))
-      (λ in_ys. (y.0, (in_ys, y.1.1)))
-      (in_tail y.0 (has_shuffled xs (x ∷ ys) y.0 shuffled y.1.0))
+      let other : x ≡ y.0 → ⊥ = λ same. away (sym y.1.1 ∙ ap (λ (z : Entry). z.row) (sym same)) in
+      let left = Contains-tail x ys y.0 other (Contains-from_at (x ∷ ys) y.0 (has_shuffled xs (x ∷ ys) y.0 shuffled y.1.0)) in
+      (y.0, (at_from_Contains ys y.0 left, y.1.1))
 
   pub waiting_taken : HeapOrder order ys → Tracked noted apart rows' ys → Waiting rows'' n ys
   waiting_taken ordered tracked = record {
