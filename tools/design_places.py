@@ -15,6 +15,21 @@ root = pathlib.Path(args[0] if args else pathlib.Path(__file__).parent.parent / 
 
 FN = re.compile(r"^( *)((?:pub(?:\([a-z]+\))? )?(?:final )?fn (\w+).*)$")
 CLAUSE = re.compile(r"^ *(?:requires|ensures)\b[^{]*(\{.*\})$")
+# what a line of code looks like that is listed under a point, and what it may not have
+FORMS = [
+    (point, re.compile(wanted), unwanted and re.compile(unwanted))
+    for point, wanted, unwanted in [
+        (1, r"Result<\(bool|Refused\(u8\)", None),
+        (1, r"Err\((\w+)\) => (Err|Answer)|Ok\((\w+)\) => Ok\(\3\)|let Ok\(.*else", None),
+        (1, r"pub fn number\(|fn value\(.*u64\b", None),
+        (4, r"impl.* (PartialEq|Eq|PartialOrd|Ord|Clone|Default) for", None),
+        (4, r"fn (from_bits|bits|blank|of|question|refusal|\w+_in_words)\(", None),
+        (4, r"Some\(\w+\) => Some\(|None => (false|0|state|true),", None),
+        (6, r"\[\w+; ?\w+\]", r"ghost|const|vec!|&\["),
+        (6, r"^ +(pub(\(crate\))? )?\w+: (Option<)?usize>?,$", None),
+        (7, r"\b\w+: bool\b.*[,)]|dyn |: fn\(", r"fn from_values"),
+    ]
+]
 places = collections.defaultdict(list)
 
 
@@ -69,12 +84,9 @@ for path in sorted(root.glob("*/src/**/*.rt")):
     lines = code(path)
     for n, line in enumerate(lines, 1):
         at = f"{name}:{n} {line.strip()}"
-        if re.search(r"Result<\(bool|Refused\(u8\)", line):
-            places[1].append(at)
-        if re.search(r"Err\((\w+)\) => (Err|Answer)|Ok\((\w+)\) => Ok\(\3\)|let Ok\(.*else", line):
-            places[1].append(at)
-        if re.search(r"pub fn number\(|fn value\(.*u64\b", line):
-            places[1].append(at)
+        for point, wanted, unwanted in FORMS:
+            if wanted.search(line) and not (unwanted and unwanted.search(line)):
+                places[point].append(at)
         m = re.match(r" *for (\w+) in \(?.*\.\.", line)
         if m:
             i, body = n, []
@@ -85,20 +97,8 @@ for path in sorted(root.glob("*/src/**/*.rt")):
                 places[3].append(at)
         elif re.match(r" *while [^l]", line):
             places[3].append(at)
-        if re.search(r"impl.* (PartialEq|Eq|PartialOrd|Ord|Clone|Default) for", line):
-            places[4].append(at)
-        if re.search(r"fn (from_bits|bits|blank|of|question|refusal|\w+_in_words)\(", line):
-            places[4].append(at)
-        if re.search(r"Some\(\w+\) => Some\(|None => (false|0|state|true),", line):
-            places[4].append(at)
         if re.search(r": 0,$", line) and re.search(r": 0,$", lines[n]) and not re.search(r": 0,$", lines[n - 2]):
             places[4].append(at + " and more zeros")
-        if re.search(r"\[\w+; ?\w+\]", line) and not re.search(r"ghost|const|vec!|&\[", line):
-            places[6].append(at)
-        if re.match(r" +(pub(\(crate\))? )?\w+: (Option<)?usize>?,$", line):
-            places[6].append(at)
-        if re.search(r"\b\w+: bool\b.*[,)]|dyn |: fn\(", line) and "fn from_values" not in line:
-            places[7].append(at)
     for first, fn, head, body in functions(lines):
         at = f"{name}:{first} {fn}"
         if "&mut" in head and re.search(r"-> bool", head):
