@@ -3,6 +3,7 @@ use Rattle.std.specs.Prelude.{◌≡◌, ℕ, if◌then◌else◌, List, Ok, Err
 use Rattle.domain.specs.declared.fault.ReadFault.{ReadFault}
 use Rattle.cards.specs.CardFiles.{card_file, read_card}
 use Rattle.maps.specs.MapFiles.{map_file, read_map}
+use Rattle.formats.specs.Files.{known_as}
 use Rattle.loading.specs.declared.any_domain.AnyDomain.{AnyDomain}
 use Rattle.loading.specs.declared.fault.LoadFault.{LoadFault}
 use Rattle.loading.specs.declared.fault.LoadFault.TheVariants.{Room, Read}
@@ -13,13 +14,9 @@ abbrev pub domain_file : Contents → List ℕ
 domain_file (of_card c) = card_file c
 domain_file (of_map m) = map_file m
 
-abbrev pub result_map : {X Y : Type 0} → (X → Y) → Result X ReadFault → Result Y ReadFault
-result_map f (Ok x) = Ok (f x)
-result_map f (Err e) = Err e
-
 -- after the letter M a map is read, and else a card, which asks for its own letter
 abbrev pub load : List ℕ → Result Contents ReadFault
-load bs = if slice_index bs 0 == 77 then result_map of_map (read_map bs) else result_map of_card (read_card bs)
+load bs = if slice_index bs 0 == 77 then known_as of_map (read_map bs) else known_as of_card (read_card bs)
 
 -- what a call that loads a domain hands back: apart from want of memory, what loading is defined to be
 abbrev pub Loads : List ℕ → Result AnyDomain LoadFault → Type 0
