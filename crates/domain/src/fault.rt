@@ -89,16 +89,14 @@ impl ReadFault {
 #[derive(Clone, Copy, PartialEq, Eq, Debug)]
 pub enum WriteFault {
     // the place is shorter than the file
-    Place,
+    Place = 9,
 }
 
 impl Numbered for WriteFault {
     ghost numbered = { write_number };
 
     fn number(self) -> u8 {
-        match self {
-            WriteFault::Place => 9,
-        }
+        self as u8
     }
 }
 
@@ -106,25 +104,20 @@ impl Numbered for WriteFault {
 #[derive(Clone, Copy, PartialEq, Eq, Debug)]
 pub enum LogFault {
     // the domain has no action of that number
-    Action,
+    Action = 11,
     // the domain is too wide to be watched
-    Width,
+    Width = 12,
     // the log is full
-    Full,
+    Full = 13,
     // the log is empty
-    Empty,
+    Empty = 14,
 }
 
 impl Numbered for LogFault {
     ghost numbered = { log_number };
 
     fn number(self) -> u8 {
-        match self {
-            LogFault::Action => 11,
-            LogFault::Width => 12,
-            LogFault::Full => 13,
-            LogFault::Empty => 14,
-        }
+        self as u8
     }
 }
 
@@ -132,16 +125,14 @@ impl Numbered for LogFault {
 #[derive(Clone, Copy, PartialEq, Eq, Debug)]
 pub enum RoomFault {
     // there is no memory for a domain
-    Memory,
+    Memory = 32,
 }
 
 impl Numbered for RoomFault {
     ghost numbered = { room_number };
 
     fn number(self) -> u8 {
-        match self {
-            RoomFault::Memory => 32,
-        }
+        self as u8
     }
 }
 
