@@ -2,6 +2,7 @@
 ghost use Rattle.std.specs.Prelude.{◌↔◌, IsTrue};
 ghost use Rattle.cards.specs.Limits.{ActionAmong};
 
+use domain::limits::MOST_COST;
 use fluents::FluentSet;
 
 // It runs where all its needs hold. What it deletes is then gone, and what it adds holds.
@@ -23,6 +24,6 @@ impl Action {
         self.needs.is_among(fluents)
             && self.adds.is_among(fluents)
             && self.deletes.is_among(fluents)
-            && self.cost <= 60_000
+            && self.cost <= MOST_COST
     }
 }

@@ -4,7 +4,9 @@ ghost use Rattle.cards.specs.Contents.{InLimits, MadeOf};
 
 use crate::action::Action;
 use crate::card::Card;
+use domain::limits::{MOST_ACTIONS, MOST_GOALS};
 use files::file::File;
+use files::kind::MOST_FLUENTS;
 use fluents::FluentSet;
 use formats::parts::Parts;
 
@@ -12,9 +14,9 @@ use formats::parts::Parts;
 fn in_limits(fluents: u8, start: FluentSet, actions: &[Action], goals: &[FluentSet]) -> bool
     ensures { IsTrue result ↔ InLimits (record { fluents = fluents; start = start; actions = actions.now; goals = goals.now }) }
 {
-    (1..=55).contains(&fluents)
-        && (1..=120).contains(&actions.len())
-        && (1..=32).contains(&goals.len())
+    (1..=MOST_FLUENTS).contains(&fluents)
+        && (1..=usize::from(MOST_ACTIONS)).contains(&actions.len())
+        && (1..=usize::from(MOST_GOALS)).contains(&goals.len())
         && start.is_among(fluents)
         && actions.iter().all(|action| action.is_among(fluents))
         && goals.iter().all(|goal| goal.is_among(fluents))

@@ -8,6 +8,8 @@ use crate::accepted::Accepted;
 use crate::fault::CompileFault;
 use cards::card::Card;
 use domain::Domain;
+use domain::limits::{MOST_ACTIONS, MOST_GOALS};
+use files::kind::MOST_FLUENTS;
 use logs::log::ObservationLog;
 
 impl<'a> Accepted<'a> {
@@ -17,13 +19,13 @@ impl<'a> Accepted<'a> {
         ensures card { IfOk result (λ accepted. accepted.card.now ≡ card.now) }
     {
         let log = ObservationLog::read(bytes, card.action_count())?;
-        if usize::from(card.width()) + log.len() > 55 {
+        if usize::from(card.width()) + log.len() > usize::from(MOST_FLUENTS) {
             return Err(CompileFault::Fluents);
         }
-        if usize::from(card.action_count()) + log.len() > 120 {
+        if usize::from(card.action_count()) + log.len() > usize::from(MOST_ACTIONS) {
             return Err(CompileFault::Actions);
         }
-        if card.goal_count() + card.goal_count() > 32 {
+        if card.goal_count() + card.goal_count() > MOST_GOALS {
             return Err(CompileFault::Goals);
         }
         Ok(Accepted { card, log })

@@ -5,6 +5,7 @@ ghost use Rattle.std.specs.Prelude.{◌≡◌};
 ghost use Rattle.domain.specs.Meaning.{Meaning, Limits};
 
 pub mod fault;
+pub mod limits;
 pub mod room;
 
 // What an implementation means is one record, and each method answers by it.

@@ -3,6 +3,7 @@ ghost use Rattle.std.specs.Prelude.{◌≡◌, ◌≤◌, [], IfOk, IfErr, vec_l
 ghost use Rattle.domain.specs.Faults.{room_number};
 
 use crate::fault::RoomFault;
+use crate::limits::{MOST_ACTIONS, MOST_GOALS};
 use std::alloc::Global;
 
 // Room for 120 actions and 32 goals, the most that a domain has, and nothing in it.
@@ -22,8 +23,8 @@ impl<S: Drop, G: Drop> Room<S, G> {
         ensures memory { IfErr result (λ fault. room_number fault ≡ 32) }
     {
         Ok(Room {
-            actions: Vec::with_capacity(heap, 120)?,
-            goals: Vec::with_capacity(heap, 32)?,
+            actions: Vec::with_capacity(heap, usize::from(MOST_ACTIONS))?,
+            goals: Vec::with_capacity(heap, usize::from(MOST_GOALS))?,
         })
     }
 }

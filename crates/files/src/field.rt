@@ -5,6 +5,7 @@ ghost use Rattle.files.specs.Contents.{is_written, may_hold, field_bytes};
 ghost use Rattle.files.specs.Writing.{Wrote};
 
 use crate::numbers::{has_bits, write_number};
+use domain::limits::MOST_COST;
 
 #[derive(Clone, Copy, PartialEq, Eq, Debug)]
 pub enum Field {
@@ -46,7 +47,7 @@ impl Field {
         match self {
             Field::Set => has_bits(value, size),
             Field::Place => value < u64::from(size),
-            Field::Cost => value <= 60_000,
+            Field::Cost => value <= u64::from(MOST_COST),
         }
     }
 

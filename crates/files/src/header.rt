@@ -8,6 +8,7 @@ ghost use Rattle.files.specs.Writing.{Wrote};
 use crate::kind::Kind;
 use crate::numbers::{read_number, write_number};
 use domain::fault::{Position, ReadFault};
+use domain::limits::{MOST_ACTIONS, MOST_GOALS};
 
 // What stands before the records.
 #[derive(Clone, Copy)]
@@ -57,8 +58,8 @@ impl Header {
             }));
         }
         let size = read_count(bytes, 1, kind.most())?;
-        let actions = read_count(bytes, 2, 120)?;
-        let goals = read_count(bytes, 3, 32)?;
+        let actions = read_count(bytes, 2, MOST_ACTIONS)?;
+        let goals = read_count(bytes, 3, MOST_GOALS)?;
         let start = read_number(&bytes[4..end]);
         if !kind.start().in_range(size, start) {
             return Err(ReadFault::Start(Position { record: 0, byte: 4 }));

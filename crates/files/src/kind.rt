@@ -4,6 +4,10 @@ ghost use Rattle.files.specs.Formats.{letter_of, most_of, start_of, header_lengt
 
 use crate::field::Field;
 use crate::layout::Layout;
+use domain::limits::MOST_WIDTH_BELOW;
+
+// The most fluents of a card: it is never too wide to have a log over it.
+pub const MOST_FLUENTS: u8 = MOST_WIDTH_BELOW;
 
 #[derive(Clone, Copy, PartialEq, Eq, Debug)]
 pub enum Kind {
@@ -34,7 +38,7 @@ impl Kind {
         ensures { result ≡ most_of self }
     {
         match self {
-            Kind::Card => 55,
+            Kind::Card => MOST_FLUENTS,
             Kind::Map => 64,
         }
     }

@@ -8,13 +8,14 @@ ghost use Rattle.plans.proofs.Watching.{watched_limits};
 
 use crate::watched::Watched;
 use domain::Domain;
+use domain::limits::MOST_WIDTH_BELOW;
 
 impl<D: Domain> Watched<D> {
     // Whether the domain leaves room for a count of entries.
     pub(crate) fn is_narrow(&self) -> bool
         ensures { result ≡ nat_le (D.meaning self.now.domain).width 55 }
     {
-        self.domain.width() <= 55
+        self.domain.width() <= MOST_WIDTH_BELOW
     }
 
     // How many bits a state has: those of the domain, and five for the count where there is room.
