@@ -1,7 +1,8 @@
 -- A card's file.
-use Rattle.std.specs.Prelude.{ℕ, List, Ok, Err, Result}
+use Rattle.std.specs.Prelude.{ℕ, List, Result}
+use Rattle.domain.specs.Rooms.{outcome_in}
 use Rattle.domain.specs.declared.fault.ReadFault.{ReadFault}
-use Rattle.files.specs.declared.file.Unread.{Unread}
+use Rattle.domain.specs.declared.room.Unfilled.{Unfilled}
 use Rattle.files.specs.declared.kind.Kind.TheVariants as kind
 use Rattle.fluents.specs.declared.FluentSet.{FluentSet}
 use Rattle.fluents.specs.SetRecords.{set_entry, entry_set}
@@ -21,9 +22,8 @@ abbrev pub read_card : List ℕ → Result Contents ReadFault
 read_card bs = files.known_as card_of (files.read_parts kind.Card entry_action entry_set bs)
 
 -- what a call that reads a card hands back
-abbrev pub outcome : Result Card (Unread Action FluentSet) → Result Contents ReadFault
-outcome (Ok c) = Ok (contents c)
-outcome (Err u) = Err u.fault
+abbrev pub outcome : Result Card (Unfilled ReadFault Action FluentSet) → Result Contents ReadFault
+outcome = outcome_in contents
 
 -- bytes are read as a card exactly when they are that card's file
 abbrev pub ReadExactly : List ℕ → Type 0

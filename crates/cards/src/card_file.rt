@@ -1,15 +1,14 @@
 // A card's file.
 ghost use Rattle.std.specs.Prelude.{◌≡◌, IfOk, IfErr, Ok};
-ghost use Rattle.files.specs.Outcome.{SameRoom};
+ghost use Rattle.domain.specs.Rooms.{SameRoom};
 ghost use Rattle.files.specs.Writing.{write_outcome, place_after};
 ghost use Rattle.cards.specs.CardFiles.{card_file, read_card, outcome, ReadExactly};
 ghost use Rattle.cards.specs.Contents.{contents};
 
 use crate::action::Action;
 use crate::card::Card;
-use domain::fault::WriteFault;
-use domain::room::Room;
-use files::file::Unread;
+use domain::fault::{ReadFault, WriteFault};
+use domain::room::{Room, Unfilled};
 use fluents::FluentSet;
 use formats::parts::Parts;
 
@@ -19,7 +18,7 @@ impl Card {
     pub fn read(
         bytes: &[u8],
         room: Room<Action, FluentSet>,
-    ) -> Result<Card, Unread<Action, FluentSet>>
+    ) -> Result<Card, Unfilled<ReadFault, Action, FluentSet>>
         ensures value { outcome result ≡ read_card bytes.now }
         ensures room { IfErr result (λ u. SameRoom room u.room) }
         ensures exact { ReadExactly bytes.now }

@@ -1,7 +1,7 @@
 // A log compiled into a card.
 ghost use Rattle.std.specs.Prelude.{◌≡◌, ℕ, ◌+◌, ◌<◌, ◌≤◌, ◌++◌, map, IfOk, IfErr, vec_len, vec_capacity};
 ghost use Rattle.std.specs.List.{range_with_len};
-ghost use Rattle.files.specs.Outcome.{SameRoom};
+ghost use Rattle.domain.specs.Rooms.{SameRoom};
 ghost use Rattle.cards.specs.Contents.{contents};
 ghost use Rattle.logs.specs.Entries.{entries};
 ghost use Rattle.compile.specs.Compiled.{compiled};
@@ -9,11 +9,11 @@ ghost use Rattle.compile.specs.Law.{StandsByCosts, CompileLaw};
 ghost use Rattle.compile.specs.Outcome.{compile_log, outcome};
 
 use crate::accepted::Accepted;
-use crate::uncompiled::Uncompiled;
+use crate::fault::CompileFault;
 use cards::action::Action;
 use cards::card::Card;
 use domain::Domain;
-use domain::room::Room;
+use domain::room::{Room, Unfilled};
 use fluents::FluentSet;
 
 // What the closure makes of the numbers below the count goes, in their order, behind what the place holds.
@@ -67,7 +67,7 @@ pub(crate) fn compile(
     card: &Card,
     log: &[u8],
     room: Room<Action, FluentSet>,
-) -> Result<Card, Uncompiled>
+) -> Result<Card, Unfilled<CompileFault, Action, FluentSet>>
     ensures value { outcome result ≡ compile_log (contents card.now) log.now }
     ensures room { IfErr result (λ u. SameRoom room u.room) }
     ensures stands { IfOk result (λ new. StandsByCosts (contents card.now) log.now (contents new)) }
@@ -76,6 +76,6 @@ pub(crate) fn compile(
     // a match and no `?`: either arm takes the room
     match Accepted::new(card, log) {
         Ok(accepted) => Ok(accepted.compiled(room)),
-        Err(fault) => Err(Uncompiled { fault, room }),
+        Err(fault) => Err(Unfilled { fault, room }),
     }
 }

@@ -6,4 +6,3 @@ pub mod compile;
 pub mod fault;
 mod parts;
 mod questions;
-pub mod uncompiled;

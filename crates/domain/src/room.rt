@@ -28,3 +28,10 @@ impl<S: Drop, G: Drop> Room<S, G> {
         })
     }
 }
+
+// Why nothing was put into a room, and the room, empty as it was.
+#[derive(Drop)]
+pub struct Unfilled<E, S, G> {
+    pub fault: E,
+    pub room: Room<S, G>,
+}

@@ -1,18 +1,19 @@
 // Reading a whole file.
 ghost use Rattle.std.specs.Prelude.{◌≡◌, ◌+◌, ◌≤◌, IfErr, vec_len, vec_capacity};
+ghost use Rattle.domain.specs.Rooms.{SameRoom};
 ghost use Rattle.files.specs.Exact.{ReadExactly};
-ghost use Rattle.files.specs.Outcome.{outcome, SameRoom};
+ghost use Rattle.files.specs.Outcome.{outcome};
 ghost use Rattle.files.specs.Cursors.{parts_at};
 ghost use Rattle.files.specs.Reading.{read_file, file_with, joined_to, headed};
 
 use crate::cursor::Cursor;
-use crate::file::{File, Unread};
+use crate::file::File;
 use crate::header::Header;
 use crate::kind::{Kind, Part};
 use crate::layout::Layout;
 use crate::record::Record;
 use domain::fault::{Position, ReadFault};
-use domain::room::Room;
+use domain::room::{Room, Unfilled};
 
 // What so many records stand for goes into the room. The answer is the position after them.
 fn read_parts<R: Record>(
@@ -81,7 +82,7 @@ pub fn read_file<S: Record + Drop, G: Record + Drop>(
     kind: Kind,
     bytes: &[u8],
     room: Room<S, G>,
-) -> Result<File<S, G>, Unread<S, G>>
+) -> Result<File<S, G>, Unfilled<ReadFault, S, G>>
     ensures value { outcome result ≡ file_with S.made G.made (read_file kind bytes.now) }
     ensures room { IfErr result (λ u. SameRoom room u.room) }
     ensures exact { ReadExactly kind bytes.now }
@@ -100,7 +101,7 @@ pub fn read_file<S: Record + Drop, G: Record + Drop>(
         Err(fault) => {
             actions.clear();
             goals.clear();
-            Err(Unread {
+            Err(Unfilled {
                 fault,
                 room: Room { actions, goals },
             })

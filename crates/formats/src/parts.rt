@@ -1,14 +1,15 @@
 // The parts of a domain, in memory.
-ghost use Rattle.std.specs.Prelude.{◌≡◌, Ok, Err, IfOk, IfErr, MatchResult, vec_len};
+ghost use Rattle.std.specs.Prelude.{◌≡◌, IfOk, IfErr, vec_len};
 ghost use Rattle.std.specs.Slice.{IsItemAt};
-ghost use Rattle.files.specs.Outcome.{contents_of, SameRoom};
+ghost use Rattle.domain.specs.Rooms.{outcome_in, SameRoom};
+ghost use Rattle.files.specs.Outcome.{contents_of};
 ghost use Rattle.files.specs.Writing.{write_outcome, place_after};
 ghost use Rattle.formats.specs.Files.{parts_file, read_parts, ReadExactly};
 
 use crate::format::Format;
-use domain::fault::WriteFault;
-use domain::room::Room;
-use files::file::{File, Unread};
+use domain::fault::{ReadFault, WriteFault};
+use domain::room::{Room, Unfilled};
+use files::file::File;
 use files::read_file::read_file;
 use files::write_file::write_file;
 
@@ -24,8 +25,8 @@ impl<F: Format> Parts<F> {
     pub fn read(
         bytes: &[u8],
         room: Room<F::Action, F::Goal>,
-    ) -> Result<Parts<F>, Unread<F::Action, F::Goal>>
-        ensures value { MatchResult result (λ p. read_parts F.KIND F.Action.made F.Goal.made bytes.now ≡ Ok (contents_of p.file)) (λ u. read_parts F.KIND F.Action.made F.Goal.made bytes.now ≡ Err u.fault) }
+    ) -> Result<Parts<F>, Unfilled<ReadFault, F::Action, F::Goal>>
+        ensures value { outcome_in (λ p. contents_of p.file) result ≡ read_parts F.KIND F.Action.made F.Goal.made bytes.now }
         ensures room { IfErr result (λ u. SameRoom room u.room) }
         ensures exact { ReadExactly (read_parts F.KIND F.Action.made F.Goal.made) (parts_file F.KIND F.Action.written F.Goal.written) F.limits bytes.now }
         ensures same { IfOk result (λ p. parts_file F.KIND F.Action.written F.Goal.written (contents_of p.file) ≡ bytes.now) }

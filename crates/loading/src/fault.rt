@@ -4,7 +4,7 @@ ghost use Rattle.loading.specs.Faults.{load_number};
 ghost use Rattle.loading.specs.declared.fault.LoadFault.TheVariants as fault;
 
 use domain::fault::{Numbered, ReadFault, RoomFault};
-use files::file::Unread;
+use domain::room::Unfilled;
 
 #[derive(Clone, Copy, PartialEq, Eq, Debug)]
 pub enum LoadFault {
@@ -34,10 +34,10 @@ impl From<RoomFault> for LoadFault {
 }
 
 // The room for a file that was refused is given up.
-impl<S: Drop, G: Drop> From<Unread<S, G>> for LoadFault {
+impl<S: Drop, G: Drop> From<Unfilled<ReadFault, S, G>> for LoadFault {
     ghost from_gives = { λ unread given. given ≡ fault.Read unread.fault };
 
-    fn from(unread: Unread<S, G>) -> LoadFault {
+    fn from(unread: Unfilled<ReadFault, S, G>) -> LoadFault {
         LoadFault::Read(unread.fault)
     }
 }

@@ -1,7 +1,8 @@
 -- A field map's file.
-use Rattle.std.specs.Prelude.{ℕ, List, Ok, Err, Result}
+use Rattle.std.specs.Prelude.{ℕ, List, Result}
+use Rattle.domain.specs.Rooms.{outcome_in}
 use Rattle.domain.specs.declared.fault.ReadFault.{ReadFault}
-use Rattle.files.specs.declared.file.Unread.{Unread}
+use Rattle.domain.specs.declared.room.Unfilled.{Unfilled}
 use Rattle.files.specs.declared.kind.Kind.TheVariants as kind
 use Rattle.formats.specs.Files as files
 use Rattle.maps.specs.Contents.{Contents, contents, InLimits}
@@ -20,9 +21,8 @@ abbrev pub read_map : List ℕ → Result Contents ReadFault
 read_map bs = files.known_as map_of (files.read_parts kind.Map entry_move entry_goal bs)
 
 -- what a call that reads a map hands back
-abbrev pub outcome : Result FieldMap (Unread Move Place) → Result Contents ReadFault
-outcome (Ok m) = Ok (contents m)
-outcome (Err u) = Err u.fault
+abbrev pub outcome : Result FieldMap (Unfilled ReadFault Move Place) → Result Contents ReadFault
+outcome = outcome_in contents
 
 -- bytes are read as a map exactly when they are that map's file
 abbrev pub ReadExactly : List ℕ → Type 0

@@ -1,6 +1,6 @@
 // A field map's file.
 ghost use Rattle.std.specs.Prelude.{◌≡◌, IfOk, IfErr, Ok};
-ghost use Rattle.files.specs.Outcome.{SameRoom};
+ghost use Rattle.domain.specs.Rooms.{SameRoom};
 ghost use Rattle.files.specs.Writing.{write_outcome, place_after};
 ghost use Rattle.maps.specs.Contents.{contents};
 ghost use Rattle.maps.specs.MapFiles.{map_file, read_map, outcome, ReadExactly};
@@ -8,15 +8,17 @@ ghost use Rattle.maps.specs.MapFiles.{map_file, read_map, outcome, ReadExactly};
 use crate::field_map::FieldMap;
 use crate::moves::Move;
 use crate::place::Place;
-use domain::fault::WriteFault;
-use domain::room::Room;
-use files::file::Unread;
+use domain::fault::{ReadFault, WriteFault};
+use domain::room::{Room, Unfilled};
 use formats::parts::Parts;
 
 impl FieldMap {
     // The map that the bytes are the file of, in the room that is handed over. A refusal gives the room back.
     // Its parts are read for every kind of domain alike; only the words of the contract are a map's own.
-    pub fn read(bytes: &[u8], room: Room<Move, Place>) -> Result<FieldMap, Unread<Move, Place>>
+    pub fn read(
+        bytes: &[u8],
+        room: Room<Move, Place>,
+    ) -> Result<FieldMap, Unfilled<ReadFault, Move, Place>>
         ensures value { outcome result ≡ read_map bytes.now }
         ensures room { IfErr result (λ u. SameRoom room u.room) }
         ensures exact { ReadExactly bytes.now }
