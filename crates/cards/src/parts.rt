@@ -1,4 +1,4 @@
-// The parts of a card by their numbers.
+// The parts of a card.
 ghost use Rattle.std.specs.Prelude.{◌≡◌};
 ghost use Rattle.std.specs.List.{slice_get};
 ghost use Rattle.cards.specs.Contents.{contents};
@@ -8,6 +8,20 @@ use crate::card::Card;
 use fluents::FluentSet;
 
 impl Card {
+    // The actions, in the order of their numbers.
+    pub fn actions(&self) -> &[Action]
+        ensures { result.now ≡ (contents self.now).actions }
+    {
+        self.parts.actions()
+    }
+
+    // The goals, in the order of their numbers.
+    pub fn goals(&self) -> &[FluentSet]
+        ensures { result.now ≡ (contents self.now).goals }
+    {
+        self.parts.goals()
+    }
+
     // The action of that number, if the card has one.
     pub fn action(&self, action: u8) -> Option<Action>
         ensures { result ≡ slice_get (contents self.now).actions action }

@@ -40,14 +40,12 @@ impl<F: Format> Parts<F> {
         ensures value { result ≡ write_outcome (parts_file F.KIND F.Action.written F.Goal.written (contents_of self.now.file)) place.old }
         ensures place { place.new ≡ place_after (parts_file F.KIND F.Action.written F.Goal.written (contents_of self.now.file)) place.old }
     {
-        // taken apart by hand: `write_file` takes slices too, and a file owns its vectors
-        let file = &self.file;
         write_file(
             F::KIND,
-            file.size,
-            file.start,
-            file.actions.as_slice(),
-            file.goals.as_slice(),
+            self.size(),
+            self.start(),
+            self.actions(),
+            self.goals(),
             place,
         )
     }
@@ -65,29 +63,43 @@ impl<F: Format> Parts<F> {
         self.file.start
     }
 
+    // The actions, in the order of their numbers.
+    pub fn actions(&self) -> &[F::Action]
+        ensures { result.now ≡ self.now.file.actions.items }
+    {
+        self.file.actions.as_slice()
+    }
+
+    // The goals, in the order of their numbers.
+    pub fn goals(&self) -> &[F::Goal]
+        ensures { result.now ≡ self.now.file.goals.items }
+    {
+        self.file.goals.as_slice()
+    }
+
     pub fn action_count(&self) -> u8
         ensures { result ≡ vec_len self.now.file.actions }
     {
-        self.file.actions.len() as u8
+        self.actions().len() as u8
     }
 
     pub fn goal_count(&self) -> u8
         ensures { result ≡ vec_len self.now.file.goals }
     {
-        self.file.goals.len() as u8
+        self.goals().len() as u8
     }
 
     // The action of that number, if there is one.
     pub fn action(&self, number: u8) -> Option<&F::Action>
         ensures { IsItemAt self.now.file.actions.items number result }
     {
-        self.file.actions.get(usize::from(number))
+        self.actions().get(usize::from(number))
     }
 
     // The goal of that number, if there is one.
     pub fn goal(&self, number: u8) -> Option<&F::Goal>
         ensures { IsItemAt self.now.file.goals.items number result }
     {
-        self.file.goals.get(usize::from(number))
+        self.goals().get(usize::from(number))
     }
 }

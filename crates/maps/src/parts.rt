@@ -1,4 +1,4 @@
-// The parts of a field map by their numbers.
+// The parts of a field map.
 ghost use Rattle.std.specs.Prelude.{◌≡◌};
 ghost use Rattle.std.specs.List.{slice_get};
 ghost use Rattle.maps.specs.Contents.{contents};
@@ -13,6 +13,20 @@ impl FieldMap {
         ensures { result ≡ (contents self.now).places }
     {
         self.parts.size()
+    }
+
+    // The moves, in the order of their numbers.
+    pub fn moves(&self) -> &[Move]
+        ensures { result.now ≡ (contents self.now).moves }
+    {
+        self.parts.actions()
+    }
+
+    // The places of the goals, in the order of their numbers.
+    pub fn goals(&self) -> &[Place]
+        ensures { result.now ≡ (contents self.now).goals }
+    {
+        self.parts.goals()
     }
 
     // The move of that number, if the map has one.
