@@ -9,8 +9,9 @@ pub mod set_record;
 use files::numbers::has_bits;
 
 // A set of fluents, numbered from 0: fluent i is in it where bit i is 1.
+// Every number is a set, so its bits are public, and clauses tell of sets by them.
 #[derive(Clone, Copy, PartialEq, Eq, Default, Debug)]
-pub struct FluentSet(u64);
+pub struct FluentSet(pub u64);
 
 impl From<u64> for FluentSet {
     ghost from_gives = { λ bits set. set.0 ≡ bits };
