@@ -5,6 +5,8 @@ use Rattle.cards.specs.declared.card.Card.{Card}
 use Rattle.cards.specs.Limits.{card_of}
 pub use Rattle.cards.specs.Limits.{Contents, InLimits}
 
+-- A function, and no model of the type: for the law of limits a model would hold them beside what the card holds,
+-- and clauses would say `self.now.contents` where they say `contents self.now`.
 abbrev pub contents : Card → Contents
 contents c = card_of (contents_of c.parts.file)
 
