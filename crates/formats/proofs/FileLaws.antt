@@ -25,7 +25,7 @@ module _ {S G : Type 0} {k : Kind} {make_s : Entry → S} {entry_s : S → Entry
 
 -- what was read, told in other words
 module _ {X Y : Type 0} (words : X → Y) where
-  known_ok : (r : Result X ReadFault) (y : Y) → known_as words r ≡ Ok y → (x : X) × (r ≡ Ok x) × (words x ≡ y)
+  pub known_ok : (r : Result X ReadFault) (y : Y) → known_as words r ≡ Ok y → (x : X) × (r ≡ Ok x) × (words x ≡ y)
   known_ok (Ok x) y e = (x, refl, ok_same _ y e)
   known_ok (Err f) y e = ok_or_err y f e
 

@@ -2,7 +2,7 @@
 ghost use Rattle.std.specs.Prelude.{◌≡◌, IfOk, Ok};
 ghost use Rattle.files.specs.Writing.{write_outcome, place_after};
 ghost use Rattle.loading.specs.Contents.{contents};
-ghost use Rattle.loading.specs.Loading.{domain_file, load, Loads};
+ghost use Rattle.loading.specs.Loading.{domain_file, load, Loads, ReadExactly};
 
 use crate::any_domain::AnyDomain;
 use crate::fault::LoadFault;
@@ -14,8 +14,10 @@ use std::alloc::Global;
 
 impl AnyDomain {
     // The domain that the bytes are the file of: a map after the letter M, and else a card. It can also fail for want of memory.
+    #[tactic(auto, using(crate::proofs::FileLaws::load_exactly))]
     pub fn read(heap: Global, bytes: &[u8]) -> Result<AnyDomain, LoadFault>
         ensures value { Loads bytes.now result }
+        ensures exact { ReadExactly bytes.now }
         ensures same { IfOk result (λ d. domain_file (contents d) ≡ bytes.now) }
     {
         match bytes {
