@@ -1,7 +1,5 @@
 -- A card's file: bytes are read as a card exactly when they are that card's file.
 use Rattle.std.proofs.Common.{◌≡◌, ℕ, List, Ok, refl, ap}
-use Rattle.std.proofs.Math.Logic.{∥∥₁_elim}
-use Rattle.std.proofs.Props.{props}
 use Rattle.files.specs.declared.kind.Kind.TheVariants as kind
 use Rattle.files.specs.Exact as files
 use Rattle.fluents.specs.SetRecords.{set_entry, entry_set}
@@ -23,6 +21,3 @@ told_exactly bs exact = known_exactly card_of _ card_file InLimits bs parts_of (
 
 pub card_exactly : (bs : List ℕ) → files.ReadExactly kind.Card bs → ReadExactly bs
 card_exactly bs exact = told_exactly bs (parts_exactly converts same_limits _ refl bs exact)
-
-pub known_limits : (c : Contents) → ∥ InLimits c ∥₁ → InLimits c
-known_limits c l = ∥∥₁_elim l (Prim.hlevel props) (λ l. l)

@@ -1,7 +1,5 @@
 -- A field map's file: bytes are read as a map exactly when they are that map's file.
 use Rattle.std.proofs.Common.{◌≡◌, ℕ, List, Ok, refl, ap}
-use Rattle.std.proofs.Math.Logic.{∥∥₁_elim}
-use Rattle.std.proofs.Props.{props}
 use Rattle.files.specs.declared.kind.Kind.TheVariants as kind
 use Rattle.files.specs.Exact as files
 use Rattle.formats.specs.Files as formats
@@ -22,6 +20,3 @@ told_exactly bs exact = known_exactly map_of _ map_file InLimits bs parts_of (λ
 
 pub map_exactly : (bs : List ℕ) → files.ReadExactly kind.Map bs → ReadExactly bs
 map_exactly bs exact = told_exactly bs (parts_exactly converts same_limits _ refl bs exact)
-
-pub known_limits : (c : Contents) → ∥ InLimits c ∥₁ → InLimits c
-known_limits c l = ∥∥₁_elim l (Prim.hlevel props) (λ l. l)

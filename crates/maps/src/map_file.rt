@@ -15,6 +15,7 @@ use formats::parts::Parts;
 impl FieldMap {
     // The map that the bytes are the file of, in the room that is handed over. A refusal gives the room back.
     // Its parts are read for every kind of domain alike; only the words of the contract are a map's own.
+    #[tactic(auto, using(crate::proofs::FileLaws::told_exactly))]
     pub fn read(
         bytes: &[u8],
         room: Room<Move, Place>,
