@@ -1,11 +1,11 @@
-// The limits of every domain.
+// The limits of every domain, for code; its meaning has them as `Limits`.
 
 pub const MOST_ACTIONS: u8 = 120;
 
 pub const MOST_GOALS: u8 = 32;
 
-// of an action
+// The greatest cost of an action.
 pub const MOST_COST: u16 = 60_000;
 
-// of a domain below a log: a count of entries is kept in five bits more
+// The greatest width of a domain that a log is kept over: the count of its entries takes five bits more.
 pub const MOST_WIDTH_BELOW: u8 = 55;

@@ -9,6 +9,8 @@ use domain::limits::MOST_WIDTH_BELOW;
 // The most fluents of a card: it is never too wide to have a log over it.
 pub const MOST_FLUENTS: u8 = MOST_WIDTH_BELOW;
 
+pub const MOST_PLACES: u8 = 64;
+
 #[derive(Clone, Copy, PartialEq, Eq, Debug)]
 pub enum Kind {
     Card,
@@ -39,7 +41,7 @@ impl Kind {
     {
         match self {
             Kind::Card => MOST_FLUENTS,
-            Kind::Map => 64,
+            Kind::Map => MOST_PLACES,
         }
     }
 

@@ -93,6 +93,6 @@ impl Domain for FieldMap {
         ensures value { result ≡ (meaning_of (contents self.now)).complete state }
         ensures every { IsTrue result ↔ (state < 2 ^ 6) }
     {
-        state < 64
+        state < 1u64 << self.width()
     }
 }
