@@ -1,7 +1,7 @@
 -- The questions that are asked of a card and a log, given as bytes, an entry to a byte, in their order.
 use Rattle.std.specs.Prelude.{ℕ, ◌+◌, ◌<◌, ◌≤◌, if◌then◌else◌, List, length, Ok, Err, Result, nat_le, slice_index}
 use Rattle.domain.specs.declared.fault.LogFault.{LogFault}
-use Rattle.cards.specs.Contents.{Contents}
+use Rattle.cards.specs.Contents.{Contents, InLimits}
 use Rattle.logs.specs.Reading.{read_log}
 use Rattle.compile.specs.declared.fault.CompileFault.{CompileFault}
 use Rattle.compile.specs.declared.fault.CompileFault.TheVariants.{Log, Fluents, Actions, Goals}
@@ -32,3 +32,10 @@ pub record Fits (c : Contents) (log : List ℕ) : Type 0 where
   pub fluents_high : c.fluents + length log ≤ 55
   pub actions_high : length c.actions + length log ≤ 120
   pub goals_high : length c.goals + length c.goals ≤ 32
+
+-- a card and a log of which all questions were answered yes
+pub record Asked : Type 0 where
+  pub card : Contents
+  pub log : List ℕ
+  pub limits : InLimits card
+  pub fits : Fits card log

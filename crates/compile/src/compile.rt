@@ -3,7 +3,6 @@ ghost use Rattle.std.specs.Prelude.{◌≡◌, ℕ, ◌+◌, ◌<◌, ◌≤◌,
 ghost use Rattle.std.specs.List.{range_with_len};
 ghost use Rattle.domain.specs.Rooms.{SameRoom};
 ghost use Rattle.cards.specs.Contents.{contents};
-ghost use Rattle.logs.specs.Entries.{entries};
 ghost use Rattle.compile.specs.Compiled.{compiled};
 ghost use Rattle.compile.specs.Law.{StandsByCosts, CompileLaw};
 ghost use Rattle.compile.specs.Outcome.{compile_log, outcome};
@@ -34,8 +33,8 @@ fn push_each<T, F: Fn(u8) -> T>(place: &mut Vec<T>, count: u8, part: F)
 impl Accepted<'_> {
     // The actions and the goals of the compiled card, in the room for them.
     fn parts(&self, room: Room<Action, FluentSet>) -> (Vec<Action>, Vec<FluentSet>)
-        ensures actions { result.0.items ≡ (compiled (contents self.now.card.now) (entries self.now.log)).actions }
-        ensures goals { result.1.items ≡ (compiled (contents self.now.card.now) (entries self.now.log)).goals }
+        ensures actions { result.0.items ≡ (compiled self.now.card self.now.log).actions }
+        ensures goals { result.1.items ≡ (compiled self.now.card self.now.log).goals }
     {
         let Room {
             mut actions,
@@ -52,7 +51,7 @@ impl Accepted<'_> {
 
     // The compiled card, in the room for it.
     fn compiled(&self, room: Room<Action, FluentSet>) -> Card
-        ensures { contents result ≡ compiled (contents self.now.card.now) (entries self.now.log) }
+        ensures { contents result ≡ compiled self.now.card self.now.log }
     {
         let (actions, goals) = self.parts(room);
         let fluents = self.card.width() + self.entry_count();

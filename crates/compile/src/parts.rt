@@ -1,8 +1,6 @@
 // The actions and the goals of a compiled card.
 ghost use Rattle.std.specs.Prelude.{◌≡◌, ◌<◌, length, slice_index};
 ghost use Rattle.cards.specs.Cards.{action_at, goal_at};
-ghost use Rattle.cards.specs.Contents.{contents};
-ghost use Rattle.logs.specs.Entries.{entries};
 ghost use Rattle.compile.specs.Compiled.{union, effect, mark, marks, mark_before, own_action, copy, with_log};
 
 use crate::accepted::Accepted;
@@ -20,46 +18,46 @@ fn union(a: FluentSet, b: FluentSet) -> FluentSet
 impl Accepted<'_> {
     // How many entries the log has.
     pub(crate) fn entry_count(&self) -> u8
-        ensures { result ≡ length (entries self.now.log) }
+        ensures { result ≡ length self.now.log }
     {
         self.log.len() as u8
     }
 
     // The entry at a place.
     fn entry(&self, place: u8) -> u8
-        requires { place < length (entries self.now.log) }
-        ensures { result ≡ slice_index (entries self.now.log) place }
+        requires { place < length self.now.log }
+        ensures { result ≡ slice_index self.now.log place }
     {
         self.log.entry(usize::from(place)).unwrap()
     }
 
     // The card's action of a number.
     fn action(&self, number: u8) -> Action
-        requires { number < length (contents self.now.card.now).actions }
-        ensures { result ≡ action_at (contents self.now.card.now) number }
+        requires { number < length self.now.card.actions }
+        ensures { result ≡ action_at self.now.card number }
     {
         self.card.action(number).unwrap()
     }
 
     // The card's goal of a number.
     pub(crate) fn goal(&self, number: u8) -> FluentSet
-        requires { number < length (contents self.now.card.now).goals }
-        ensures { result ≡ goal_at (contents self.now.card.now) number }
+        requires { number < length self.now.card.goals }
+        ensures { result ≡ goal_at self.now.card number }
     {
         self.card.goal(number).unwrap()
     }
 
     // The mark of an entry.
     fn mark(&self, place: u8) -> FluentSet
-        requires { place < length (entries self.now.log) }
-        ensures { result ≡ mark (contents self.now.card.now) place }
+        requires { place < length self.now.log }
+        ensures { result ≡ mark self.now.card place }
     {
         FluentSet::from(1u64 << (self.card.width() + place))
     }
 
     // The marks of all entries.
     fn marks(&self) -> FluentSet
-        ensures { result ≡ marks (contents self.now.card.now) (length (entries self.now.log)) }
+        ensures { result ≡ marks self.now.card (length self.now.log) }
     {
         let mut set = FluentSet::default();
         // by a loop: the check does not find what a fold over a range of numbers gives
@@ -71,8 +69,8 @@ impl Accepted<'_> {
 
     // The mark of the entry before, and nothing before the first one.
     fn mark_before(&self, place: u8) -> FluentSet
-        requires { place < length (entries self.now.log) }
-        ensures { result ≡ mark_before (contents self.now.card.now) place }
+        requires { place < length self.now.log }
+        ensures { result ≡ mark_before self.now.card place }
     {
         if place == 0 {
             FluentSet::default()
@@ -83,7 +81,7 @@ impl Accepted<'_> {
 
     // What is left of what an action adds or deletes: nothing where the log does not let the action run.
     fn effect(&self, number: u8, marked: bool, set: FluentSet) -> FluentSet
-        ensures { result ≡ effect (entries self.now.log) number marked set }
+        ensures { result ≡ effect self.now.log number marked set }
     {
         if self.log.may_run(number, marked) {
             set
@@ -94,8 +92,8 @@ impl Accepted<'_> {
 
     // What becomes of an action of the card itself.
     pub(crate) fn own_action(&self, number: u8) -> Action
-        requires { number < length (contents self.now.card.now).actions }
-        ensures { result ≡ own_action (contents self.now.card.now) (entries self.now.log) number }
+        requires { number < length self.now.card.actions }
+        ensures { result ≡ own_action self.now.card self.now.log number }
     {
         let own = self.action(number);
         Action {
@@ -108,8 +106,8 @@ impl Accepted<'_> {
 
     // The copy of an entry's action.
     pub(crate) fn copy(&self, place: u8) -> Action
-        requires { place < length (entries self.now.log) }
-        ensures { result ≡ copy (contents self.now.card.now) (entries self.now.log) place }
+        requires { place < length self.now.log }
+        ensures { result ≡ copy self.now.card self.now.log place }
     {
         let own = self.action(self.entry(place));
         Action {
@@ -122,8 +120,8 @@ impl Accepted<'_> {
 
     // The card's goal of a number, together with the log.
     pub(crate) fn with_log(&self, number: u8) -> FluentSet
-        requires { number < length (contents self.now.card.now).goals }
-        ensures { result ≡ with_log (contents self.now.card.now) (entries self.now.log) (goal_at (contents self.now.card.now) number) }
+        requires { number < length self.now.card.goals }
+        ensures { result ≡ with_log self.now.card self.now.log (goal_at self.now.card number) }
     {
         union(self.goal(number), self.marks())
     }

@@ -16,7 +16,7 @@ impl<'a> Accepted<'a> {
     // The card with the log that the bytes tell, if it keeps the limits of a card.
     pub(crate) fn new(card: &'a Card, bytes: &[u8]) -> Result<Accepted<'a>, CompileFault>
         ensures value { log_outcome result ≡ accepted_log (contents card.now) bytes.now }
-        ensures card { IfOk result (λ accepted. accepted.card.now ≡ card.now) }
+        ensures card { IfOk result (λ accepted. accepted.card ≡ contents card.now) }
     {
         let log = ObservationLog::read(bytes, card.action_count())?;
         if usize::from(card.width()) + log.len() > usize::from(MOST_FLUENTS) {

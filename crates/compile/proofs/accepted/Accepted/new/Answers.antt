@@ -10,4 +10,4 @@ invariant_of-result c =
     let card = contents c.args.card.now in
     let log = entries c.in_ok-log.log in
     let asked : Ok log ≡ accepted_log card c.args.bytes.now = search rules in
-    record { fits = (accepted_fits card c.args.bytes.now log (sym asked)).0 }
+    ((accepted_fits card c.args.bytes.now log (sym asked)).0, tt)
