@@ -1,5 +1,6 @@
 -- Fields of a record: what is read is what was written.
 use Rattle.std.proofs.Common.{◌≡◌, ℕ, ◌+◌, ◌*◌, ◌/◌, ◌%◌, ◌^◌, ◌<◌, ◌≤◌, Bool, true, false, cond, ◌&&◌, eqb, ltb, List, [], ◌∷◌, ◌++◌, length, get_or, take, drop, Ok, Err, sym, refl, ap, ◌∙◌, subst, append_assoc, add-zero, arith}
+use Rattle.std.specs.Int.{from_bool}
 use Rattle.std.specs.List.{AllByRecursion}
 use Rattle.std.proofs.ByRecursion.{All-take, All-drop}
 use Rattle.std.proofs.lemmas.List.{take-append-drop, drop-drop, length-take-le, length-drop, length-append, take_at, drop_at}
@@ -9,7 +10,7 @@ use Rattle.domain.specs.declared.fault.ReadFault.TheVariants as Refused
 use Rattle.files.specs.declared.field.Field.{Field}
 use Rattle.files.specs.declared.field.Field.TheVariants.{Set, Place, Cost}
 use Rattle.files.specs.Contents.{is_written, bit_map, field_bytes, all_field_bytes, InRange}
-use Rattle.files.specs.Formats.{bytes_of, absent_of, limit_of, bit}
+use Rattle.files.specs.Formats.{bytes_of, absent_of, limit_of}
 use Rattle.files.specs.Numbers.{Bytes, little, spelled}
 use Rattle.files.specs.Reading.{position, and_then, with_first, is_odd, value_at, read_field, read_fields, size_of}
 use Rattle.files.proofs.Numerals.{length_spelled, little_spelled, spelled_little}
@@ -17,15 +18,15 @@ use Rattle.files.proofs.Outcomes.{ok_same, passed, then_ok, first_ok}
 use Rattle.files.proofs.ReadSteps.{field_next}
 
 -- the lowest bit of a number that is put together from a bit and a rest
-pub bit_odd : (b : Bool) (n : ℕ) → is_odd (bit b + 2 * n) ≡ b
+pub bit_odd : (b : Bool) (n : ℕ) → is_odd (from_bool b + 2 * n) ≡ b
 bit_odd true n = eq-eqb ((1 + 2 * n) % 2) 1 (omega arith)
 bit_odd false n = ne_eqb ((0 + 2 * n) % 2) 1 (λ e. omega arith)
 
-pub bit_rest : (b : Bool) (n : ℕ) → (bit b + 2 * n) / 2 ≡ n
+pub bit_rest : (b : Bool) (n : ℕ) → (from_bool b + 2 * n) / 2 ≡ n
 bit_rest true n = omega arith
 bit_rest false n = omega arith
 
-bit_whole : (b : Bool) (m : ℕ) → is_odd m ≡ b → m ≡ bit b + 2 * (m / 2)
+bit_whole : (b : Bool) (m : ℕ) → is_odd m ≡ b → m ≡ from_bool b + 2 * (m / 2)
 bit_whole true m e = let low : m % 2 ≡ 1 = eqb-true (m % 2) 1 e in omega arith
 bit_whole false m e = let low : m % 2 ≡ 1 → ⊥ = eqb-false (m % 2) 1 e in omega arith
 
@@ -89,8 +90,8 @@ module _ (bs : List ℕ) (all : Bytes bs) (size r : ℕ) (some : 1 ≤ size) whe
       let step : next ≡ at + cond (is_odd m) (bytes_of f) 0 = field_next bs size r at f (is_odd m) one.0 one.1 in
       let here = field_read bs all size r at some f (is_odd m) one.0 (omega arith) one.1 in
       let there = fields_read fs next (m / 2) rest.0 (omega arith) rest.1 in
-      let low : bit (is_written f v) ≡ bit (is_odd m) = ap bit here.1 in
-      let whole : m ≡ bit (is_odd m) + 2 * (m / 2) = bit_whole (is_odd m) m refl in
+      let low : from_bool (is_written f v) ≡ from_bool (is_odd m) = ap from_bool here.1 in
+      let whole : m ≡ from_bool (is_odd m) + 2 * (m / 2) = bit_whole (is_odd m) m refl in
       let high : m / 2 ≡ bit_map fs vs top = there.map in
       subst (FieldsRead bs size at m (f ∷ fs)) rest.2
       (record {
@@ -136,8 +137,8 @@ size_written (f ∷ fs) vs top =
     let v = get_or vs 0 0 in
     let w = is_written f v in
     let rest = bit_map fs (drop 1 vs) top in
-    let low : cond (is_odd (bit w + 2 * rest)) (bytes_of f) 0 ≡ length (field_bytes f v) = ap (λ b. cond b (bytes_of f) 0) (bit_odd w rest) ∙ sym (length_field f v) in
-    let high : size_of ((bit w + 2 * rest) / 2) fs ≡ length (all_field_bytes fs (drop 1 vs)) = ap (λ m. size_of m fs) (bit_rest w rest) ∙ size_written fs (drop 1 vs) top in
+    let low : cond (is_odd (from_bool w + 2 * rest)) (bytes_of f) 0 ≡ length (field_bytes f v) = ap (λ b. cond b (bytes_of f) 0) (bit_odd w rest) ∙ sym (length_field f v) in
+    let high : size_of ((from_bool w + 2 * rest) / 2) fs ≡ length (all_field_bytes fs (drop 1 vs)) = ap (λ m. size_of m fs) (bit_rest w rest) ∙ size_written fs (drop 1 vs) top in
     omega (arith, length-append (field_bytes f v) (all_field_bytes fs (drop 1 vs)))
 
 module _ (bs : List ℕ) (size r : ℕ) where
@@ -151,9 +152,9 @@ module _ (bs : List ℕ) (size r : ℕ) where
       let rest = bit_map fs vs top in
       let next = at + length (field_bytes f v) in
       let e' : drop at bs ≡ field_bytes f v ++ (all_field_bytes fs vs ++ tail) = e ∙ append_assoc (field_bytes f v) (all_field_bytes fs vs) tail in
-      let one : read_field bs size r at f (is_odd (bit w + 2 * rest)) ≡ Ok (v, next) = ap (read_field bs size r at f) (bit_odd w rest) ∙ field_written bs size r at f v (all_field_bytes fs vs ++ tail) i.0 n.0 e' in
-      let more : read_fields bs size r next ((bit w + 2 * rest) / 2) fs ≡ Ok (vs, (top, next + length (all_field_bytes fs vs))) = ap (λ m. read_fields bs size r next m fs) (bit_rest w rest) ∙ fields_written fs vs next top tail n.1 i.1 (after_bytes bs at (field_bytes f v) (all_field_bytes fs vs ++ tail) e') in
+      let one : read_field bs size r at f (is_odd (from_bool w + 2 * rest)) ≡ Ok (v, next) = ap (read_field bs size r at f) (bit_odd w rest) ∙ field_written bs size r at f v (all_field_bytes fs vs ++ tail) i.0 n.0 e' in
+      let more : read_fields bs size r next ((from_bool w + 2 * rest) / 2) fs ≡ Ok (vs, (top, next + length (all_field_bytes fs vs))) = ap (λ m. read_fields bs size r next m fs) (bit_rest w rest) ∙ fields_written fs vs next top tail n.1 i.1 (after_bytes bs at (field_bytes f v) (all_field_bytes fs vs ++ tail) e') in
       let end : next + length (all_field_bytes fs vs) ≡ at + length (field_bytes f v ++ all_field_bytes fs vs) = omega (arith, length-append (field_bytes f v) (all_field_bytes fs vs)) in
-      ap (λ q. and_then q (λ x. with_first x.0 (read_fields bs size r x.1 ((bit w + 2 * rest) / 2) fs))) one
+      ap (λ q. and_then q (λ x. with_first x.0 (read_fields bs size r x.1 ((from_bool w + 2 * rest) / 2) fs))) one
       ∙ ap (with_first v) more
       ∙ ap (λ m. Ok (v ∷ vs, (top, m))) end

@@ -1,15 +1,16 @@
 -- Steps of the loops that read.
-use Rattle.std.proofs.Common.{◌≡◌, ℕ, suc, ◌+◌, ◌-◌, ◌/◌, ◌<◌, ◌≤◌, Bool, true, false, cond, List, [], ◌∷◌, ◌++◌, length, get_or, drop, Ok, Err, Result, sym, refl, ap, ◌∙◌, append_assoc, add-zero, arith}
+use Rattle.std.proofs.Common.{◌≡◌, ℕ, zero, suc, ◌+◌, ◌-◌, ◌/◌, ◌<◌, ◌≤◌, Bool, true, false, cond, List, [], ◌∷◌, ◌++◌, length, get_or, take, drop, Ok, Err, Result, sym, refl, ap, ◌∙◌, append_assoc, add-zero, arith}
 use Rattle.std.proofs.lemmas.List.{at_drop_more, append-nil}
 use Rattle.domain.specs.declared.fault.ReadFault.{ReadFault}
 use Rattle.files.specs.declared.field.Field.{Field}
 use Rattle.files.specs.declared.field.Field.TheVariants.{Set, Place, Cost}
 use Rattle.files.specs.declared.kind.Kind.{Kind}
 use Rattle.files.specs.declared.kind.Part.{Part}
-use Rattle.files.specs.Contents.{Entry}
+use Rattle.files.specs.Contents.{Entry, four_of}
+use Rattle.files.specs.Cursors.{in_four}
 use Rattle.files.specs.Formats.{bytes_of}
-use Rattle.files.proofs.Outcomes.{ok_same, passed}
-use Rattle.files.specs.Reading.{and_then, with_first, is_odd, read_field, read_fields, size_of, read_record, read_records, part_with, parts_with}
+use Rattle.files.proofs.Outcomes.{ok_same, ok_or_err, passed}
+use Rattle.files.specs.Reading.{and_then, with_first, is_odd, as_entry, read_field, read_fields, size_of, read_record, read_records, part_with, parts_with}
 
 -- what was read before, and then what is read next
 abbrev pub prefixed : {X Y : Type 0} → List X → Result (List X × Y) ReadFault → Result (List X × Y) ReadFault
@@ -33,16 +34,46 @@ module _ (fs : List Field) (i : ℕ) where
   pub size_more : (m : ℕ) → i < length fs → size_of m (drop i fs) ≡ cond (is_odd m) (bytes_of (get_or fs i Set)) 0 + size_of (m / 2) (drop (i + 1) fs)
   size_more m h = at_drop_more (size_of m) fs i Set h
 
-  -- what was read before is vs, and the i-th field stands at a byte
-  module _ (bs : List ℕ) (size r at m : ℕ) (vs : List ℕ) where
-    abbrev Rest : Result (List ℕ × (ℕ × ℕ)) ReadFault
-    Rest = prefixed vs (read_fields bs size r at m (drop i fs))
+-- what was read before is vs, and the field f stands at a byte
+module _ (bs : List ℕ) (size r at m : ℕ) (vs : List ℕ) (fs gs : List Field) (f : Field) (is : fs ≡ f ∷ gs) where
+  abbrev Rest : Result (List ℕ × (ℕ × ℕ)) ReadFault
+  Rest = prefixed vs (read_fields bs size r at m fs)
 
-    fields_more : i < length fs → Rest ≡ prefixed vs (and_then (read_field bs size r at (get_or fs i Set) (is_odd m)) (λ x. with_first x.0 (read_fields bs size r x.1 (m / 2) (drop (i + 1) fs))))
-    fields_more h = ap (prefixed vs) (at_drop_more (read_fields bs size r at m) fs i Set h)
+  pub fields_ok : (v next : ℕ) → read_field bs size r at f (is_odd m) ≡ Ok (v, next) → Rest ≡ prefixed (vs ++ (v ∷ [])) (read_fields bs size r next (m / 2) gs)
+  fields_ok v next e = ap (λ fs. prefixed vs (read_fields bs size r at m fs)) is ∙ turn_ok vs _ _ _ (v, next) e
 
-    pub fields_ok : (v next : ℕ) → i < length fs → read_field bs size r at (get_or fs i Set) (is_odd m) ≡ Ok (v, next) → Rest ≡ prefixed (vs ++ (v ∷ [])) (read_fields bs size r next (m / 2) (drop (i + 1) fs))
-    fields_ok v next h e = fields_more h ∙ turn_ok vs _ _ _ (v, next) e
+  pub fields_err : (e : ReadFault) → read_field bs size r at f (is_odd m) ≡ Err e → Rest ≡ Err e
+  fields_err e was = ap (λ fs. prefixed vs (read_fields bs size r at m fs)) is ∙ turn_err vs _ _ _ e was
+
+  pub size_first : size_of m fs ≡ cond (is_odd m) (bytes_of f) 0 + size_of (m / 2) gs
+  size_first = ap (size_of m) is
+
+-- an array of values before any is read
+abbrev pub zeros : List ℕ
+zeros = 0 ∷ (0 ∷ (0 ∷ (0 ∷ [])))
+
+-- an array that fields were read into, and nothing behind them
+pub four_read : (vs : List ℕ) (i : ℕ) → length vs ≡ 4 → i ≤ 4 → drop i vs ≡ drop i zeros → four_of (take i vs) ≡ vs
+four_read (a ∷ (b ∷ (c ∷ (d ∷ [])))) zero l h e = sym e
+four_read (a ∷ (b ∷ (c ∷ (d ∷ [])))) (suc zero) l h e = ap (λ t. a ∷ t) (sym e)
+four_read (a ∷ (b ∷ (c ∷ (d ∷ [])))) (suc (suc zero)) l h e = ap (λ t. a ∷ (b ∷ t)) (sym e)
+four_read (a ∷ (b ∷ (c ∷ (d ∷ [])))) (suc (suc (suc zero))) l h e = ap (λ t. a ∷ (b ∷ (c ∷ t))) (sym e)
+four_read (a ∷ (b ∷ (c ∷ (d ∷ [])))) (suc (suc (suc (suc zero)))) l h e = refl
+four_read (a ∷ (b ∷ (c ∷ (d ∷ [])))) (suc (suc (suc (suc (suc i))))) l h e = absurd (omega arith)
+four_read [] i l h e = absurd (omega arith)
+four_read (a ∷ []) i l h e = absurd (omega arith)
+four_read (a ∷ (b ∷ [])) i l h e = absurd (omega arith)
+four_read (a ∷ (b ∷ (c ∷ []))) i l h e = absurd (omega arith)
+four_read (a ∷ (b ∷ (c ∷ (d ∷ (x ∷ xs))))) i l h e = absurd (omega arith)
+
+pub fields_end : (bs : List ℕ) (size r at m : ℕ) (fs : List Field) (vs : List ℕ) (i : ℕ) → length fs ≡ 0 → length vs ≡ 4 → i ≤ 4 → drop i vs ≡ drop i zeros → in_four (prefixed (take i vs) (read_fields bs size r at m fs)) ≡ Ok (vs, m, at)
+fields_end bs size r at m [] vs i n l h e = ap (λ t. Ok (four_of t, m, at)) (append-nil (take i vs)) ∙ ap (λ t. Ok (t, m, at)) (four_read vs i l h e)
+fields_end bs size r at m (f ∷ fs) vs i n l h e = absurd (omega arith)
+
+-- what is made of fields in an array
+pub made_of_four : {X : Type 0} (make : Entry → X) → ((e : Entry) → make (record { values = four_of e.values; marked = e.marked }) ≡ make e) → (r : Result (List ℕ × (ℕ × ℕ)) ReadFault) (x : List ℕ × ℕ × ℕ) → Ok x ≡ in_four r → Ok (make (record { values = x.0; marked = is_odd x.1 }), x.2) ≡ part_with make (as_entry r)
+made_of_four make four (Ok y) x e = ap (λ x. Ok (make (record { values = x.0; marked = is_odd x.1 }), x.2)) (ok_same _ _ e) ∙ ap (λ z. Ok (z, y.1.1)) (four (record { values = y.0; marked = is_odd y.1.0 }))
+made_of_four make four (Err f) x e = ok_or_err x f (sym e)
 
 pub bytes_few : (f : Field) → bytes_of f ≤ 7
 bytes_few Set = omega arith

@@ -12,26 +12,18 @@ use Rattle.files.specs.declared.kind.Kind.TheVariants.{Card, Map}
 use Rattle.files.specs.declared.kind.Part.{Part}
 use Rattle.files.specs.declared.kind.Part.TheVariants.{Action, Goal}
 use Rattle.files.specs.Contents.{Entry, is_written, bit_map, all_field_bytes, mark_bit, record_bytes, ValidEntry}
-use Rattle.files.specs.Formats.{most_of, fields_of, is_markable, bit, bit_count}
+use Rattle.files.specs.Formats.{most_of, fields_of, is_markable, bit_count}
 use Rattle.files.specs.Numbers.{Bytes}
 use Rattle.files.specs.Reading.{and_then, with_first, is_odd, read_fields, size_of, as_entry, read_record, read_records}
 use Rattle.files.proofs.Fields.{FieldsRead, fields_read, Narrow, size_written, fields_written, after_bytes}
 use Rattle.files.proofs.Outcomes.{ok_same, ok_or_err, passed, then_ok, first_ok}
 
-pub bit_low : (b : Bool) → bit b ≤ 1
+pub bit_low : (b : Bool) → from_bool b ≤ 1
 bit_low true = omega arith
 bit_low false = omega arith
 
-pub bit_times : (b : Bool) (n : ℕ) → bit b * n ≤ n
-bit_times true n = omega arith
-bit_times false n = omega arith
-
-pub bit_from : (b : Bool) → from_bool b ≡ bit b
-bit_from true = refl
-bit_from false = refl
-
 -- a defined bit map has nothing above the fields' bits but the mark's
-bit_of : (n : ℕ) → n < 2 → n ≡ bit (is_odd n)
+bit_of : (n : ℕ) → n < 2 → n ≡ from_bool (is_odd n)
 bit_of zero h = refl
 bit_of (suc zero) h = refl
 bit_of (suc (suc n)) h = absurd (omega arith)
@@ -40,7 +32,7 @@ none_of : (n : ℕ) → n < 1 → (n ≡ 0) × (false ≡ is_odd n)
 none_of zero h = (refl, refl)
 none_of (suc n) h = absurd (omega arith)
 
-top_read : (k : Kind) (p : Part) (vs : List ℕ) (top : ℕ) → bit_map (fields_of k p) vs top < 2 ^ bit_count k p → (top ≡ bit (is_markable p && is_odd top)) × ((is_markable p && is_odd top) ≡ is_odd top)
+top_read : (k : Kind) (p : Part) (vs : List ℕ) (top : ℕ) → bit_map (fields_of k p) vs top < 2 ^ bit_count k p → (top ≡ from_bool (is_markable p && is_odd top)) × ((is_markable p && is_odd top) ≡ is_odd top)
 top_read Card Action vs top h = (bit_of top (omega arith), refl)
 top_read Card Goal vs top h = none_of top (omega arith)
 top_read Map Action vs top h = (bit_of top (omega arith), refl)
@@ -53,12 +45,19 @@ map_below (f ∷ fs) vs top c h =
     let double : 2 ^ (suc (length fs) + c) ≡ 2 ^ (length fs + c) * 2 = ap (λ n. 2 ^ n) e ∙ pow-suc 2 (length fs + c) in
     omega (arith, bit_low (is_written f (get_or vs 0 0)), map_below fs (drop 1 vs) top c h)
 
-mark_below : (p : Part) (m : Bool) → bit (is_markable p && m) < 2 ^ bit (is_markable p)
+mark_below : (p : Part) (m : Bool) → from_bool (is_markable p && m) < 2 ^ from_bool (is_markable p)
 mark_below Action m = omega (arith, bit_low m)
 mark_below Goal m = omega arith
 
 pub map_defined : (k : Kind) (p : Part) (e : Entry) → bit_map (fields_of k p) e.values (mark_bit p e) < 2 ^ bit_count k p
-map_defined k p e = map_below (fields_of k p) e.values (mark_bit p e) (bit (is_markable p)) (mark_below p e.marked)
+map_defined k p e = map_below (fields_of k p) e.values (mark_bit p e) (from_bool (is_markable p)) (mark_below p e.marked)
+
+-- a bit map has five bits at most
+pub map_small : (k : Kind) (p : Part) (e : Entry) → bit_map (fields_of k p) e.values (mark_bit p e) < 32
+map_small Card Action e = map_defined Card Action e
+map_small Card Goal e = omega (arith, map_defined Card Goal e)
+map_small Map Action e = omega (arith, map_defined Map Action e)
+map_small Map Goal e = omega (arith, map_defined Map Goal e)
 
 pub record RecordRead (k : Kind) (p : Part) (size : ℕ) (bs : List ℕ) (at : ℕ) (x : Entry × ℕ) : Type 0 where
   pub valid : ValidEntry k p size x.0
@@ -84,11 +83,11 @@ module _ (bs : List ℕ) (all : Bytes bs) (k : Kind) (p : Part) (size : ℕ) (so
       let top = y.0.1.0 in
       let fields : FieldsRead bs size (at + 1) m fs y.0 = fields_read bs all size r some fs (at + 1) m y.0 room y.1 in
       let mark = top_read k p vs top (subst (λ n. n < 2 ^ bit_count k p) fields.map small) in
-      let map : m ≡ bit_map fs vs (bit (is_markable p && is_odd top)) = fields.map ∙ ap (bit_map fs vs) mark.0 in
+      let map : m ≡ bit_map fs vs (from_bool (is_markable p && is_odd top)) = fields.map ∙ ap (bit_map fs vs) mark.0 in
       subst (RecordRead k p size bs at) y.2
       (record {
         valid = (fields.in_range, mark.1);
-        bytes = drop_more bs at 0 inside ∙ ap (λ n. n ∷ drop (at + 1) bs) map ∙ ap (λ t. bit_map fs vs (bit (is_markable p && is_odd top)) ∷ t) fields.bytes;
+        bytes = drop_more bs at 0 inside ∙ ap (λ n. n ∷ drop (at + 1) bs) map ∙ ap (λ t. bit_map fs vs (from_bool (is_markable p && is_odd top)) ∷ t) fields.bytes;
       })
 
   pub record RecordsRead (n at : ℕ) (x : List Entry × ℕ) : Type 0 where
@@ -122,7 +121,7 @@ narrow Card Goal size h = (set_narrow size h, tt)
 narrow Map Action size h = (omega arith, (omega arith, (omega arith, tt)))
 narrow Map Goal size h = (omega arith, tt)
 
-odd_bit : (b : Bool) → is_odd (bit b) ≡ b
+odd_bit : (b : Bool) → is_odd (from_bool b) ≡ b
 odd_bit true = refl
 odd_bit false = refl
 

@@ -1,20 +1,20 @@
 -- Steps of the functions that write.
-use Rattle.std.proofs.Common.{◌≡◌, ℕ, ◌+◌, ◌-◌, ◌*◌, ◌%◌, ◌<◌, ◌≤◌, List, [], ◌∷◌, ◌++◌, map, length, get_or, take, drop, set, Ok, Err, sym, refl, ap, ◌∙◌, subst, append_assoc, add-zero, arith}
-use Rattle.std.proofs.lemmas.List.{at_drop_more, drop_all, take_at, drop_at, length-take-le, drop-drop, drop_more, get_or-drop, length-append, length-drop, length-map, append-nil, take-append-drop, take_all}
+use Rattle.std.proofs.Common.{◌≡◌, ℕ, zero, suc, ◌+◌, ◌-◌, ◌*◌, ◌%◌, ◌<◌, ◌≤◌, List, [], ◌∷◌, ◌++◌, map, length, get_or, take, drop, set, Ok, Err, sym, refl, ap, ◌∙◌, subst, append_assoc, arith}
+use Rattle.std.proofs.lemmas.List.{at_drop_more, drop_all, take_at, drop_at, length-take-le, drop-drop, get_or-drop, length-append, length-drop, length-map, append-nil, take-append-drop, take_all}
 use Rattle.std.proofs.lemmas.List.Folds.{flat_map-map}
 use Rattle.std.proofs.lemmas.Bool.{le-leb, lt-leb, cond-true, cond-false}
+use Rattle.std.specs.Int.{from_bool}
 use Rattle.std.specs.List.{flat_map}
 use borrow.Rule.Slice.PartMut.{put_mid}
 use Rattle.domain.specs.declared.fault.WriteFault.TheVariants.{Place}
 use Rattle.files.specs.declared.field.Field.{Field}
-use Rattle.files.specs.declared.field.Field.TheVariants.{Set}
 use Rattle.files.specs.declared.kind.Kind.{Kind}
 use Rattle.files.specs.declared.kind.Kind.TheVariants.{Card, Map}
 use Rattle.files.specs.declared.kind.Part.{Part}
 use Rattle.files.specs.declared.kind.Part.TheVariants.{Action, Goal}
 use Rattle.files.specs.declared.layout.Layout.{Layout}
-use Rattle.files.specs.Contents.{Entry, is_written, bit_map, field_bytes, all_field_bytes, record_bytes, header_bytes, file_bytes}
-use Rattle.files.specs.Formats.{bytes_of, start_of, header_length, fields_of, bit}
+use Rattle.files.specs.Contents.{Entry, four_of, is_written, bit_map, field_bytes, all_field_bytes, record_bytes, header_bytes, file_bytes}
+use Rattle.files.specs.Formats.{bytes_of, start_of, header_length, fields_of}
 use Rattle.files.specs.Writing.{Wrote, write_outcome, place_after, raw_of, records_of, file_length}
 use Rattle.files.proofs.Numerals.{length_spelled}
 
@@ -75,25 +75,13 @@ pub wrote_byte : (b : ℕ) (place : List ℕ) → 0 < length place → Wrote (b 
 wrote_byte b [] h = absurd (omega arith)
 wrote_byte b (x ∷ xs) h = record { count_is = refl; place_is = refl }
 
--- the i-th field stands first among the others
-module _ (fs : List Field) (vs : List ℕ) (i : ℕ) (h : i < length fs) where
-  first_value : get_or (drop i vs) 0 0 ≡ get_or vs i 0
-  first_value = get_or-drop i vs 0 0 ∙ ap (λ n. get_or vs n 0) (add-zero i)
+-- a field and its value, which stand first among the others
+module _ (fs gs : List Field) (vs ws : List ℕ) (f : Field) (v : ℕ) (is : fs ≡ f ∷ gs) (holds : vs ≡ v ∷ ws) where
+  pub map_first : (top : ℕ) → bit_map fs vs top ≡ from_bool (is_written f v) + 2 * bit_map gs ws top
+  map_first top = ap (λ fs. bit_map fs vs top) is ∙ ap (λ vs. bit_map (f ∷ gs) vs top) holds
 
-  other_values : drop 1 (drop i vs) ≡ drop (i + 1) vs
-  other_values = drop-drop 1 i vs
-
-  fields_first : all_field_bytes (drop i fs) (drop i vs) ≡ field_bytes (get_or fs i Set) (get_or vs i 0) ++ all_field_bytes (drop (i + 1) fs) (drop (i + 1) vs)
-  fields_first =
-      ap (λ gs. all_field_bytes gs (drop i vs)) (drop_more fs i Set h)
-      ∙ ap (λ v. field_bytes (get_or fs i Set) v ++ all_field_bytes (drop (i + 1) fs) (drop 1 (drop i vs))) first_value
-      ∙ ap (λ us. field_bytes (get_or fs i Set) (get_or vs i 0) ++ all_field_bytes (drop (i + 1) fs) us) other_values
-
-  pub map_first : (top : ℕ) → bit_map (drop i fs) (drop i vs) top ≡ bit (is_written (get_or fs i Set) (get_or vs i 0)) + 2 * bit_map (drop (i + 1) fs) (drop (i + 1) vs) top
-  map_first top =
-      ap (λ gs. bit_map gs (drop i vs) top) (drop_more fs i Set h)
-      ∙ ap (λ v. bit (is_written (get_or fs i Set) v) + 2 * bit_map (drop (i + 1) fs) (drop 1 (drop i vs)) top) first_value
-      ∙ ap (λ us. bit (is_written (get_or fs i Set) (get_or vs i 0)) + 2 * bit_map (drop (i + 1) fs) us top) other_values
+  pub fields_next : (bytes p q : List ℕ) (m : ℕ) → Begun bytes (all_field_bytes fs vs) p q m → Begun bytes (field_bytes f v ++ all_field_bytes gs ws) p q m
+  fields_next bytes p q m = subst (λ rest. Begun bytes rest p q m) (ap (λ fs. all_field_bytes fs vs) is ∙ ap (all_field_bytes (f ∷ gs)) holds)
 
 pub fields_few : (k : Kind) (p : Part) → length (fields_of k p) ≤ 4
 fields_few Card Action = omega arith
@@ -101,11 +89,40 @@ fields_few Card Goal = omega arith
 fields_few Map Action = omega arith
 fields_few Map Goal = omega arith
 
--- the fields from the i-th on, and the records of the items from the i-th on
-pub fields_next : (fs : List Field) (vs : List ℕ) (i v : ℕ) (bytes p q : List ℕ) (m : ℕ) → i < length fs → v ≡ get_or vs i 0
-    → Begun bytes (all_field_bytes (drop i fs) (drop i vs)) p q m → Begun bytes (field_bytes (get_or fs i Set) v ++ all_field_bytes (drop (i + 1) fs) (drop (i + 1) vs)) p q m
-fields_next fs vs i v bytes p q m h e = subst (λ rest. Begun bytes rest p q m) (fields_first fs vs i h ∙ ap (λ v. field_bytes (get_or fs i Set) v ++ all_field_bytes (drop (i + 1) fs) (drop (i + 1) vs)) (sym e))
+-- what is written of four values is what is written of the values themselves
+four_same : (vs : List ℕ) (i : ℕ) → i < 4 → get_or (four_of vs) i 0 ≡ get_or vs i 0
+four_same vs zero h = refl
+four_same vs (suc zero) h = refl
+four_same vs (suc (suc zero)) h = refl
+four_same vs (suc (suc (suc zero))) h = refl
+four_same vs (suc (suc (suc (suc i)))) h = absurd (omega arith)
 
+rest_same : (n : ℕ) (vs ws : List ℕ) → ((i : ℕ) → i < suc n → get_or vs i 0 ≡ get_or ws i 0) → (i : ℕ) → i < n → get_or (drop 1 vs) i 0 ≡ get_or (drop 1 ws) i 0
+rest_same n vs ws h i l = get_or-drop 1 vs i 0 ∙ h (1 + i) (omega arith) ∙ sym (get_or-drop 1 ws i 0)
+
+bytes_same : (fs : List Field) (vs ws : List ℕ) → ((i : ℕ) → i < length fs → get_or vs i 0 ≡ get_or ws i 0) → all_field_bytes fs vs ≡ all_field_bytes fs ws
+bytes_same [] vs ws h = refl
+bytes_same (f ∷ fs) vs ws h =
+    ap (λ v. field_bytes f v ++ all_field_bytes fs (drop 1 vs)) (h 0 (omega arith))
+    ∙ ap (λ t. field_bytes f (get_or ws 0 0) ++ t) (bytes_same fs (drop 1 vs) (drop 1 ws) (rest_same (length fs) vs ws h))
+
+map_same : (fs : List Field) (vs ws : List ℕ) (top : ℕ) → ((i : ℕ) → i < length fs → get_or vs i 0 ≡ get_or ws i 0) → bit_map fs vs top ≡ bit_map fs ws top
+map_same [] vs ws top h = refl
+map_same (f ∷ fs) vs ws top h =
+    ap (λ v. from_bool (is_written f v) + 2 * bit_map fs (drop 1 vs) top) (h 0 (omega arith))
+    ∙ ap (λ n. from_bool (is_written f (get_or ws 0 0)) + 2 * n) (map_same fs (drop 1 vs) (drop 1 ws) top (rest_same (length fs) vs ws h))
+
+module _ (k : Kind) (p : Part) (vs : List ℕ) where
+  same : (i : ℕ) → i < length (fields_of k p) → get_or (four_of vs) i 0 ≡ get_or vs i 0
+  same i h = four_same vs i (omega (arith, fields_few k p))
+
+  pub bytes_of_four : all_field_bytes (fields_of k p) (four_of vs) ≡ all_field_bytes (fields_of k p) vs
+  bytes_of_four = bytes_same (fields_of k p) (four_of vs) vs same
+
+  pub map_of_four : (top : ℕ) → bit_map (fields_of k p) (four_of vs) top ≡ bit_map (fields_of k p) vs top
+  map_of_four top = map_same (fields_of k p) (four_of vs) vs top same
+
+-- the records of the items from the i-th on
 module _ {X : Type 0} (l : Layout) (written : X → Entry) (xs : List X) (i : ℕ) (x : X) (h : i < length xs) (is : x ≡ get_or xs i x) where
   items_first : records_of l written (drop i xs) ≡ record_bytes l.kind l.part (written x) ++ records_of l written (drop (i + 1) xs)
   items_first = at_drop_more (records_of l written) xs i x h ∙ ap (λ y. record_bytes l.kind l.part (written y) ++ records_of l written (drop (i + 1) xs)) (sym is)

@@ -1,17 +1,22 @@
 -- What a file holds, and the bytes that it is written as.
 use Rattle.std.specs.Prelude.{◌≡◌, ℕ, ◌+◌, ◌*◌, ◌<◌, ◌≤◌, Bool, if◌then◌else◌, not, ◌&&◌, List, [], ◌∷◌, ◌++◌, length, drop, ◌==◌, nat_lt, slice_index}
+use Rattle.std.specs.Int.{from_bool}
 use Rattle.std.specs.List.{flat_map, AllByRecursion}
 use Rattle.files.specs.declared.field.Field.{Field}
 use Rattle.files.specs.declared.kind.Kind.{Kind}
 use Rattle.files.specs.declared.kind.Part.{Part}
 use Rattle.files.specs.declared.kind.Part.TheVariants.{Action, Goal}
-use Rattle.files.specs.Formats.{bytes_of, absent_of, limit_of, letter_of, most_of, start_of, fields_of, is_markable, bit}
+use Rattle.files.specs.Formats.{bytes_of, absent_of, limit_of, letter_of, most_of, start_of, fields_of, is_markable}
 use Rattle.files.specs.Numbers.{spelled}
 
 -- a record after the header: the value of each field, absent ones too, and whether it is marked
 pub record Entry : Type 0 where
   pub values : List ℕ
   pub marked : Bool
+
+-- the first four values of a record, and 0 for each that it does not have; no record in a file has more
+abbrev pub four_of : List ℕ → List ℕ
+four_of vs = slice_index vs 0 ∷ (slice_index vs 1 ∷ (slice_index vs 2 ∷ (slice_index vs 3 ∷ [])))
 
 -- a file by what its records stand for; size is how many fluents or places there are
 pub record File (S G : Type 0) : Type 0 where
@@ -37,7 +42,7 @@ may_hold size f v = nat_lt v (limit_of size f) && is_written f v
 -- bit i tells whether field i is written; top stands above the fields' bits
 abbrev pub bit_map : List Field → List ℕ → ℕ → ℕ
 bit_map [] vs top = top
-bit_map (f ∷ fs) vs top = bit (is_written f (slice_index vs 0)) + 2 * bit_map fs (drop 1 vs) top
+bit_map (f ∷ fs) vs top = from_bool (is_written f (slice_index vs 0)) + 2 * bit_map fs (drop 1 vs) top
 
 abbrev pub field_bytes : Field → ℕ → List ℕ
 field_bytes f v = if is_written f v then spelled (bytes_of f) v else []
@@ -48,7 +53,7 @@ all_field_bytes (f ∷ fs) vs = field_bytes f (slice_index vs 0) ++ all_field_by
 
 -- the bit after the last field's is the mark's
 abbrev pub mark_bit : Part → Entry → ℕ
-mark_bit p e = bit (is_markable p && e.marked)
+mark_bit p e = from_bool (is_markable p && e.marked)
 
 abbrev pub record_bytes : Kind → Part → Entry → List ℕ
 record_bytes k p e = bit_map (fields_of k p) e.values (mark_bit p e) ∷ all_field_bytes (fields_of k p) e.values
@@ -70,7 +75,7 @@ InRange size [] (v ∷ vs) = ⊥
 InRange size (f ∷ fs) [] = ⊥
 InRange size (f ∷ fs) (v ∷ vs) = (v < limit_of size f) × InRange size fs vs
 
--- a value in range for each field, and no mark where there is no bit for it
+-- a value in range for each field, and no mark where there is no from_bool for it
 abbrev pub ValidEntry : Kind → Part → ℕ → Entry → Type 0
 ValidEntry k p size e = InRange size (fields_of k p) e.values × ((is_markable p && e.marked) ≡ e.marked)
 

@@ -1,24 +1,25 @@
 -- Reading from a place in a file.
-use Rattle.std.specs.Prelude.{ℕ, ◌+◌, Bool, List, length, take, Ok, Err, Result}
+use Rattle.std.specs.Prelude.{ℕ, ◌+◌, true, List, Ok, Err, Result}
 use Rattle.domain.specs.declared.fault.Position.{Position}
 use Rattle.domain.specs.declared.fault.ReadFault.{ReadFault}
 use Rattle.files.specs.declared.field.Field.{Field}
 use Rattle.files.specs.declared.layout.Layout.{Layout}
 use Rattle.files.specs.declared.cursor.Cursor.{Cursor}
-use Rattle.files.specs.Contents.{Entry}
+use Rattle.files.specs.Contents.{Entry, four_of}
 use Rattle.files.specs.Formats.{fields_of}
 use Rattle.files.specs.Reading.{position, read_field, read_fields, read_record, read_records, parts_with}
 
-abbrev pub field_at : Cursor → Field → Bool → Result (ℕ × ℕ) ReadFault
-field_at c f present = read_field c.bytes.now c.size c.at.«record» c.at.byte f present
+-- a field that is present
+abbrev pub field_at : Cursor → Field → Result (ℕ × ℕ) ReadFault
+field_at c f = read_field c.bytes.now c.size c.at.«record» c.at.byte f true
 
 abbrev pub fields_at : Cursor → Layout → ℕ → Result (List ℕ × (ℕ × ℕ)) ReadFault
 fields_at c l map = read_fields c.bytes.now c.size c.at.«record» c.at.byte map (fields_of l.kind l.part)
 
--- the values of a layout's fields, which stand first in an array
-abbrev pub first_values : Layout → Result (List ℕ × ℕ × ℕ) ReadFault → Result (List ℕ × (ℕ × ℕ)) ReadFault
-first_values l (Ok x) = Ok (take (length (fields_of l.kind l.part)) x.0, (x.1, x.2))
-first_values l (Err e) = Err e
+-- fields that were read, their values in an array of four
+abbrev pub in_four : Result (List ℕ × (ℕ × ℕ)) ReadFault → Result (List ℕ × ℕ × ℕ) ReadFault
+in_four (Ok x) = Ok (four_of x.0, x.1.0, x.1.1)
+in_four (Err e) = Err e
 
 abbrev pub record_at : Cursor → Layout → Result (Entry × ℕ) ReadFault
 record_at c l = read_record l.kind l.part c.size c.bytes.now c.at.«record» c.at.byte

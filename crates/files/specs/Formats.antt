@@ -1,5 +1,6 @@
 -- The two file formats, as tables.
 use Rattle.std.specs.Prelude.{ℕ, ◌+◌, ◌^◌, Bool, true, false, List, [], ◌∷◌, length}
+use Rattle.std.specs.Int.{from_bool}
 use Rattle.files.specs.declared.field.Field.{Field}
 use Rattle.files.specs.declared.field.Field.TheVariants as field
 use Rattle.files.specs.declared.kind.Kind.{Kind}
@@ -56,10 +57,6 @@ abbrev pub is_markable : Part → Bool
 is_markable Action = true
 is_markable Goal = false
 
-abbrev pub bit : Bool → ℕ
-bit true = 1
-bit false = 0
-
 -- how many bits of a record's bit map are defined
 abbrev pub bit_count : Kind → Part → ℕ
-bit_count k p = length (fields_of k p) + bit (is_markable p)
+bit_count k p = length (fields_of k p) + from_bool (is_markable p)

@@ -1,13 +1,13 @@
 // Reading one record, from a place in a file.
-ghost use Rattle.std.specs.Prelude.{◌≡◌, ◌+◌, ◌≤◌, IsTrue, length};
+ghost use Rattle.std.specs.Prelude.{◌≡◌, ◌+◌, ◌≤◌, length};
 ghost use Rattle.files.specs.Formats.{bytes_of, fields_of};
 ghost use Rattle.files.specs.Reading.{size_of, part_with};
-ghost use Rattle.files.specs.Cursors.{field_at, fields_at, record_at, first_values};
+ghost use Rattle.files.specs.Cursors.{field_at, fields_at, record_at, in_four};
 
 use crate::field::Field;
 use crate::layout::Layout;
 use crate::numbers::{has_bits, read_number};
-use crate::record::Record;
+use crate::record::{Record, Values};
 use domain::fault::{Position, ReadFault};
 
 // A place in a file that is read, of a domain of so many fluents or places.
@@ -19,15 +19,12 @@ pub(crate) struct Cursor<'a> {
 }
 
 impl Cursor<'_> {
-    // The value of a field that its bit tells to be present or not, and the byte after it.
-    fn field(self, field: Field, present: bool) -> Result<(u64, usize), ReadFault>
-        requires { IsTrue present → self.at.byte + bytes_of field ≤ length self.bytes.now }
-        ensures { result ≡ field_at self.entry field present }
+    // The value of a field that is present, and the byte after it.
+    fn field(self, field: Field) -> Result<(u64, usize), ReadFault>
+        requires { self.at.byte + bytes_of field ≤ length self.bytes.now }
+        ensures { result ≡ field_at self.entry field }
     {
         let from = self.at.byte;
-        if !present {
-            return Ok((field.absent(), from));
-        }
         let next = from + field.bytes();
         let value = read_number(&self.bytes[from..next]);
         if !field.may_hold(self.size, value) {
@@ -36,19 +33,23 @@ impl Cursor<'_> {
         Ok((value, next))
     }
 
-    // The values of the fields, absent ones too, of which no record has more than four, the bits of the bit map that are left, and the byte after the fields.
-    fn fields(self, layout: Layout, map: u8) -> Result<([u64; 4], u8, usize), ReadFault>
+    // The values of the fields, the bits of the bit map that are left, and the byte after the fields.
+    fn fields(self, layout: Layout, map: u8) -> Result<(Values, u8, usize), ReadFault>
         requires { self.at.byte + size_of map (fields_of layout.kind layout.part) ≤ length self.bytes.now }
-        ensures { fields_at self.entry layout map ≡ first_values layout result }
+        ensures { result ≡ in_four (fields_at self.entry layout map) }
     {
         let mut values = [0; 4];
         let mut rest = map;
         let mut byte = self.at.byte;
-        for (i, field) in layout.fields().iter().enumerate() {
-            let at = Position { byte, ..self.at };
-            let (value, next) = Cursor { at, ..self }.field(*field, rest % 2 == 1)?;
-            values[i] = value;
-            byte = next;
+        let mut fields = layout.fields().iter();
+        for value in values.iter_mut() {
+            let Some(field) = fields.next() else { break };
+            if rest % 2 == 1 {
+                let at = Position { byte, ..self.at };
+                (*value, byte) = Cursor { at, ..self }.field(*field)?;
+            } else {
+                *value = field.absent();
+            }
             rest /= 2;
         }
         Ok((values, rest, byte))
@@ -76,7 +77,6 @@ impl Cursor<'_> {
             return Err(cut);
         }
         let (values, rest, next) = Cursor { at, ..self }.fields(layout, *map)?;
-        let count = layout.fields().len();
-        Ok((R::from_values(&values[..count], rest % 2 == 1), next))
+        Ok((R::from_values(values, rest % 2 == 1), next))
     }
 }

@@ -69,12 +69,14 @@ impl Layout {
     fn bit_map<R: Record>(self, item: &R) -> u8
         ensures { result ≡ bit_map (fields_of self.kind self.part) (R.written item.now).values (mark_bit self.part (R.written item.now)) }
     {
-        let fields = self.fields();
+        let values = item.values();
         let mut map = 0;
-        for (i, field) in fields.iter().enumerate() {
-            map += u8::from(field.is_written(item.value(i))) << i;
+        let mut bit = 1;
+        for (field, value) in self.fields().iter().zip(&values) {
+            map += bit * u8::from(field.is_written(*value));
+            bit *= 2;
         }
-        map + (self.mark_bit(item) << fields.len())
+        map + bit * self.mark_bit(item)
     }
 
     // How many bytes the item's record takes.
@@ -89,9 +91,10 @@ impl Layout {
         requires { length (all_field_bytes (fields_of self.kind self.part) (R.written item.now).values) ≤ length place.old }
         ensures { Wrote (all_field_bytes (fields_of self.kind self.part) (R.written item.now).values) place.old place.new result }
     {
+        let values = item.values();
         let mut count = 0;
-        for (i, field) in self.fields().iter().enumerate() {
-            count += field.write(item.value(i), &mut place[count..]);
+        for (field, value) in self.fields().iter().zip(&values) {
+            count += field.write(*value, &mut place[count..]);
         }
         count
     }

@@ -1,29 +1,27 @@
 // What a record of a file stands for.
-ghost use Rattle.std.specs.Prelude.{◌≡◌, slice_index};
-ghost use Rattle.files.specs.Contents.{Entry};
+ghost use Rattle.std.specs.Prelude.{◌≡◌, ◌≤◌, length};
+ghost use Rattle.files.specs.Contents.{Entry, four_of};
+
+// The values of a record's fields, absent ones too, in the order of their bits. No record has more than four fields; behind the last one's value stands 0.
+pub type Values = [u64; 4];
 
 // A part of a domain that has a record of its own in the file: an action, a move, a goal.
+// The law: what is made of a record depends on its first four values alone.
 pub trait Record: Sized {
     // what its record holds, and what is made of such a record
     ghost written: { Self → Entry };
 
     ghost made: { Entry → Self };
 
-    fn from_values(values: &[u64], marked: bool) -> Self
-        ensures { result ≡ made (record { values = values.now; marked = marked }) };
+    fn from_values(values: Values, marked: bool) -> Self
+        ensures { result ≡ made (record { values = values; marked = marked }) };
 
-    // The value of a field, and 0 past the last one.
-    // A field is named by its place in the record, as its bit is: each kind of record has fields of its own.
-    fn value(&self, field: usize) -> u64
-        ensures { result ≡ slice_index (written self.now).values field };
+    fn values(&self) -> Values
+        ensures value { result ≡ four_of (written self.now).values }
+        ensures few { length (written self.now).values ≤ 4 };
 
     fn is_marked(&self) -> bool
         ensures { result ≡ (written self.now).marked };
-}
 
-// The value of a field, and 0 where there is none.
-pub fn value_at(values: &[u64], field: usize) -> u64
-    ensures { result ≡ slice_index values.now field }
-{
-    values.get(field).copied().unwrap_or(0)
+    ghost of_four: { (e : Entry) → made (record { values = four_of e.values; marked = e.marked }) ≡ made e };
 }

@@ -1,16 +1,16 @@
 // A move and a goal as records of a file.
-ghost use Rattle.std.specs.Prelude.{◌≡◌};
-ghost use Rattle.maps.specs.MapRecords.{place_in, move_entry, entry_move, goal_entry, entry_goal};
+ghost use Rattle.std.specs.Prelude.{◌≡◌, refl};
+ghost use Rattle.maps.specs.MapRecords.{place_of, move_entry, entry_move, goal_entry, entry_goal};
 
 use crate::moves::Move;
 use crate::place::Place;
-use files::record::{Record, value_at};
+use files::record::{Record, Values};
 
-// The place that a field holds; a file's places take eight bits.
-fn place_at(values: &[u64], field: usize) -> Place
-    ensures { result ≡ place_in values.now field }
+// The place that a value stands for; a file's places take eight bits.
+fn place_of(value: u64) -> Place
+    ensures { result ≡ place_of value }
 {
-    Place(u8::try_from(value_at(values, field)).unwrap_or(u8::MAX))
+    Place(u8::try_from(value).unwrap_or(u8::MAX))
 }
 
 impl Record for Move {
@@ -18,27 +18,29 @@ impl Record for Move {
 
     ghost made = { entry_move };
 
-    fn from_values(values: &[u64], marked: bool) -> Move {
+    fn from_values([from, to, cost, _]: Values, marked: bool) -> Move {
         Move {
-            from: place_at(values, 0),
-            to: place_at(values, 1),
-            cost: u16::try_from(value_at(values, 2)).unwrap_or(u16::MAX),
+            from: place_of(from),
+            to: place_of(to),
+            cost: u16::try_from(cost).unwrap_or(u16::MAX),
             marked,
         }
     }
 
-    fn value(&self, field: usize) -> u64 {
-        match field {
-            0 => u64::from(self.from),
-            1 => u64::from(self.to),
-            2 => u64::from(self.cost),
-            _ => 0,
-        }
+    fn values(&self) -> Values {
+        [
+            u64::from(self.from),
+            u64::from(self.to),
+            u64::from(self.cost),
+            0,
+        ]
     }
 
     fn is_marked(&self) -> bool {
         self.marked
     }
+
+    ghost of_four = { λ e. refl };
 }
 
 impl Record for Place {
@@ -46,15 +48,17 @@ impl Record for Place {
 
     ghost made = { entry_goal };
 
-    fn from_values(values: &[u64], _marked: bool) -> Place {
-        place_at(values, 0)
+    fn from_values([place, ..]: Values, _marked: bool) -> Place {
+        place_of(place)
     }
 
-    fn value(&self, field: usize) -> u64 {
-        if field == 0 { u64::from(*self) } else { 0 }
+    fn values(&self) -> Values {
+        [u64::from(*self), 0, 0, 0]
     }
 
     fn is_marked(&self) -> bool {
         false
     }
+
+    ghost of_four = { λ e. refl };
 }

@@ -1,20 +1,25 @@
-use Rattle.std.proofs.Common.{◌+◌, length, drop, ap, arith}
+use Rattle.std.proofs.Common.{length, ap, arith}
+use Rattle.std.specs.Iterator.Adapters.{zip_first, zip_second}
+use Rattle.std.specs.Slice.Iter.{iter_rest}
 use Rattle.files.specs.Contents.{all_field_bytes}
 use Rattle.files.proofs.WriteSteps.{begun_fits, begun_more, fields_next}
 use Rattle.files.proofs.layout.Layout.write_fields.Goals as goal
 
 pub write-count-requires : goal.write-count-requires
 write-count-requires g c =
-    let fs = c.fields-field-items.result.now in
-    let vs = (g.R.Record.written c.args.item.now).values in
-    let i = c.loop-i.i in
-    let b = fields_next fs vs i c.value.result (all_field_bytes fs vs) c.args.place.now c.loop-i.place c.loop-i.count c.loop-i-test.true c.value.ensures c.loop-i.invariant in
-    begun_fits _ _ _ _ _ _ b (omega (arith, c.requires, ap (λ gs. length (all_field_bytes gs vs)) c.fields-field-items.ensures)) (omega (arith, c.loop-i.auto.place))
+    let s = c.loop-field.field-iterator in
+    let t = c.next.new.self in
+    let is = c.in-Some.ensures.steps in
+    let b = fields_next (iter_rest (zip_first s)) (iter_rest (zip_first t)) (iter_rest (zip_second s)) (iter_rest (zip_second t)) c.in-Some.field.now c.in-Some.value.now is.0 is.1 _ _ _ _ c.loop-field.invariant.begun in
+    begun_fits _ _ _ _ _ _ b c.requires c.loop-field.auto.place
 
-pub loop-i-preserved : goal.loop-i-preserved
-loop-i-preserved g c =
-    let fs = c.fields-field-items.result.now in
-    let vs = (g.R.Record.written c.args.item.now).values in
-    let i = c.loop-i.i in
-    let b = fields_next fs vs i c.value.result (all_field_bytes fs vs) c.args.place.now c.loop-i.place c.loop-i.count c.loop-i-test.true c.value.ensures c.loop-i.invariant in
-    begun_more _ _ (all_field_bytes (drop (i + 1) fs) (drop (i + 1) vs)) _ _ _ b _ _ c.write-count.ensures
+pub loop-field-preserved : goal.loop-field-preserved
+loop-field-preserved g c =
+    let s = c.loop-field.field-iterator in
+    let t = c.next.new.self in
+    let is = c.in-Some.ensures.steps in
+    let b = fields_next (iter_rest (zip_first s)) (iter_rest (zip_first t)) (iter_rest (zip_second s)) (iter_rest (zip_second t)) c.in-Some.field.now c.in-Some.value.now is.0 is.1 _ _ _ _ c.loop-field.invariant.begun in
+    record {
+      few = omega (arith, c.loop-field.invariant.few, ap length is.0, ap length is.1);
+      begun = begun_more _ _ (all_field_bytes (iter_rest (zip_first t)) (iter_rest (zip_second t))) _ _ _ b _ _ c.write-count.ensures;
+    }

@@ -1,9 +1,16 @@
-use Rattle.std.proofs.Common.{drop}
+use Rattle.std.proofs.Common.{◌≤◌, length}
+use Rattle.std.specs.Iterator.Adapters.{zip_first, zip_second}
+use Rattle.std.specs.Slice.Iter.{iter_rest}
 use Rattle.files.specs.Contents.{all_field_bytes}
+use Rattle.files.specs.Formats.{fields_of}
 use Rattle.files.proofs.WriteSteps.{Begun}
 use Rattle.files.proofs.layout.Layout.write_fields.Given as goal
 
-abbrev pub invariant-loop-i : goal.invariant-loop-i
-invariant-loop-i g l =
-    let vs = (g.R.Record.written l.item).values in
-    Begun (all_field_bytes l.field-items vs) (all_field_bytes (drop l.i l.field-items) (drop l.i vs)) l.initial.place l.place l.count
+abbrev pub invariant-loop-field : goal.invariant-loop-field
+invariant-loop-field g l =
+    let fs = iter_rest (zip_first l.field-iterator) in
+    let vs = iter_rest (zip_second l.field-iterator) in
+    record {
+      few : length fs ≤ length vs;
+      begun : Begun (all_field_bytes (fields_of l.fn.self.kind l.fn.self.part) (g.R.Record.written l.item).values) (all_field_bytes fs vs) l.initial.place l.place l.count;
+    }
