@@ -7,7 +7,7 @@ use Rattle.files.specs.declared.kind.Part.TheVariants as part
 use Rattle.files.specs.Contents.{File, ValidEntry}
 use Rattle.fluents.specs.declared.FluentSet.{FluentSet}
 use Rattle.fluents.specs.SetRecords.{set_entry, entry_set}
-use Rattle.files.proofs.Typed.{Converts, ValidParts}
+use Rattle.files.specs.Parts.{Converts, ValidParts}
 use Rattle.cards.specs.declared.action.Action.{Action}
 use Rattle.cards.specs.ActionRecords.{action_entry, entry_action}
 use Rattle.cards.specs.Limits.{Among, ActionAmong, InLimits, card_of}

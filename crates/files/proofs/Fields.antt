@@ -14,7 +14,7 @@ use Rattle.files.specs.Formats.{bytes_of, absent_of, limit_of}
 use Rattle.files.specs.Numbers.{Bytes, little, spelled}
 use Rattle.files.specs.Reading.{position, and_then, with_first, is_odd, value_at, read_field, read_fields, size_of}
 use Rattle.files.proofs.Numerals.{length_spelled, little_spelled, spelled_little}
-use Rattle.files.proofs.Outcomes.{ok_same, passed, then_ok, first_ok}
+use Rattle.files.proofs.Outcomes.{ok_same, passed, then_ok, known_ok}
 use Rattle.files.proofs.ReadSteps.{field_next}
 
 -- the lowest bit of a number that is put together from a bit and a rest
@@ -83,7 +83,7 @@ module _ (bs : List ℕ) (all : Bytes bs) (size r : ℕ) (some : 1 ≤ size) whe
       let one = then_ok (read_field bs size r at f (is_odd m)) _ x e in
       let v = one.0.0 in
       let next = one.0.1 in
-      let rest = first_ok v (read_fields bs size r next (m / 2) fs) x one.2 in
+      let rest = known_ok _ (read_fields bs size r next (m / 2) fs) x one.2 in
       let vs = rest.0.0 in
       let top = rest.0.1.0 in
       let end = rest.0.1.1 in

@@ -1,11 +1,10 @@
 -- Records of a file: what is read is what was written.
-use Rattle.std.proofs.Common.{◌≡◌, ℕ, zero, suc, ◌+◌, ◌-◌, ◌*◌, ◌^◌, ◌<◌, ◌≤◌, Bool, true, false, ◌&&◌, ltb, leb, List, [], ◌∷◌, ◌++◌, length, get_or, drop, Ok, Err, Result, sym, refl, ap, ◌∙◌, subst, append_assoc, add-zero, pow-suc, arith}
+use Rattle.std.proofs.Common.{◌≡◌, ℕ, zero, suc, ◌+◌, ◌-◌, ◌*◌, ◌^◌, ◌<◌, ◌≤◌, Bool, true, false, ◌&&◌, ltb, leb, List, [], ◌∷◌, ◌++◌, length, get_or, drop, Ok, sym, refl, ap, ◌∙◌, subst, append_assoc, add-zero, pow-suc, arith}
 use native.Mathlib.Nat.{pow-le-pow_right}
 use Rattle.std.specs.Int.{from_bool}
 use Rattle.std.specs.List.{flat_map, AllByRecursion}
 use Rattle.std.proofs.lemmas.List.{drop_more, drop-drop, length-drop, length-append, get_or-drop}
 use Rattle.std.proofs.lemmas.Bool.{ltb-true, lt-ltb, leb-true, le-leb, cond-true}
-use Rattle.domain.specs.declared.fault.ReadFault.{ReadFault}
 use Rattle.files.specs.declared.field.Field.{Field}
 use Rattle.files.specs.declared.kind.Kind.{Kind}
 use Rattle.files.specs.declared.kind.Kind.TheVariants.{Card, Map}
@@ -16,7 +15,7 @@ use Rattle.files.specs.Formats.{most_of, fields_of, is_markable, bit_count}
 use Rattle.files.specs.Numbers.{Bytes}
 use Rattle.files.specs.Reading.{and_then, with_first, is_odd, read_fields, size_of, as_entry, read_record, read_records}
 use Rattle.files.proofs.Fields.{FieldsRead, fields_read, Narrow, size_written, fields_written, after_bytes}
-use Rattle.files.proofs.Outcomes.{ok_same, ok_or_err, passed, then_ok, first_ok}
+use Rattle.files.proofs.Outcomes.{ok_same, passed, then_ok, known_ok}
 
 pub bit_low : (b : Bool) → from_bool b ≤ 1
 bit_low true = omega arith
@@ -63,10 +62,6 @@ pub record RecordRead (k : Kind) (p : Part) (size : ℕ) (bs : List ℕ) (at : �
   pub valid : ValidEntry k p size x.0
   pub bytes : drop at bs ≡ record_bytes k p x.0 ++ drop x.1 bs
 
-as_entry_ok : (r : Result (List ℕ × (ℕ × ℕ)) ReadFault) (x : Entry × ℕ) → as_entry r ≡ Ok x → (y : List ℕ × (ℕ × ℕ)) × (r ≡ Ok y) × ((record { values = y.0; marked = is_odd y.1.0 }, y.1.1) ≡ x)
-as_entry_ok (Ok y) x e = (y, refl, ok_same _ x e)
-as_entry_ok (Err f) x e = ok_or_err x f e
-
 module _ (bs : List ℕ) (all : Bytes bs) (k : Kind) (p : Part) (size : ℕ) (some : 1 ≤ size) where
   pub record_read : (r at : ℕ) (x : Entry × ℕ) → read_record k p size bs r at ≡ Ok x → RecordRead k p size bs at x
   record_read r at x e =
@@ -78,7 +73,7 @@ module _ (bs : List ℕ) (all : Bytes bs) (k : Kind) (p : Part) (size : ℕ) (so
       let inside : at < length bs = ltb-true at (length bs) there.0 in
       let small : m < 2 ^ bit_count k p = ltb-true m (2 ^ bit_count k p) defined.0 in
       let room : at + 1 + size_of m fs ≤ length bs = leb-true (at + 1 + size_of m fs) (length bs) whole.0 in
-      let y = as_entry_ok (read_fields bs size r (at + 1) m fs) x whole.1 in
+      let y = known_ok _ (read_fields bs size r (at + 1) m fs) x whole.1 in
       let vs = y.0.0 in
       let top = y.0.1.0 in
       let fields : FieldsRead bs size (at + 1) m fs y.0 = fields_read bs all size r some fs (at + 1) m y.0 room y.1 in
@@ -101,7 +96,7 @@ module _ (bs : List ℕ) (all : Bytes bs) (k : Kind) (p : Part) (size : ℕ) (so
       let one = then_ok (read_record k p size bs r at) _ x e in
       let entry = one.0.0 in
       let next = one.0.1 in
-      let rest = first_ok entry (read_records k p size bs n (r + 1) next) x one.2 in
+      let rest = known_ok _ (read_records k p size bs n (r + 1) next) x one.2 in
       let here = record_read r at one.0 one.1 in
       let there = records_read n (r + 1) next rest.0 rest.1 in
       subst (RecordsRead (suc n) at) rest.2

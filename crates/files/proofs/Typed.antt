@@ -1,16 +1,15 @@
 -- Files by what their records stand for: reading and writing are inverse to each other.
-use Rattle.std.proofs.Common.{◌≡◌, ℕ, ◌<◌, ◌≤◌, List, [], ◌∷◌, map, length, Ok, Err, Result, sym, refl, ap, ◌∙◌, subst, arith}
+use Rattle.std.proofs.Common.{◌≡◌, ℕ, List, [], ◌∷◌, map, Ok, sym, refl, ap, ◌∙◌, subst, arith}
 use Rattle.std.specs.List.{AllByRecursion}
 use Rattle.std.proofs.lemmas.List.{length-map}
-use Rattle.domain.specs.declared.fault.ReadFault.{ReadFault}
 use Rattle.files.specs.declared.kind.Kind.{Kind}
 use Rattle.files.specs.declared.kind.Part.TheVariants.{Action, Goal}
 use Rattle.files.specs.Contents.{Entry, File, RawFile, file_bytes, ValidEntry, ValidFile}
 use Rattle.files.specs.Exact.{ReadExactly}
-use Rattle.files.specs.Formats.{limit_of, most_of, start_of}
+use Rattle.files.specs.Parts.{Converts, ValidParts}
 use Rattle.files.specs.Reading.{read_file, file_with}
 use Rattle.files.specs.Writing.{raw_of}
-use Rattle.files.proofs.Outcomes.{ok_same, ok_or_err}
+use Rattle.files.proofs.Outcomes.{known_ok}
 use Rattle.files.proofs.WholeFiles.{file_written}
 
 -- there and back again, of each element
@@ -25,22 +24,8 @@ module _ {X Y : Type 0} (P : X → Type 0) (Q : Y → Type 0) (f : X → Y) (g :
 
 -- S stands for the actions' records and G for the goals'; Good says which ones a domain of a size may have
 module _ {S G : Type 0} (k : Kind) (make_s : Entry → S) (entry_s : S → Entry) (make_g : Entry → G) (entry_g : G → Entry) (GoodS : ℕ → S → Type 0) (GoodG : ℕ → G → Type 0) where
-  pub record Converts : Type 0 where
-    pub action_read : (n : ℕ) → n ≤ most_of k → (e : Entry) → ValidEntry k Action n e → GoodS n (make_s e) × (entry_s (make_s e) ≡ e)
-    pub action_written : (n : ℕ) → n ≤ most_of k → (x : S) → GoodS n x → ValidEntry k Action n (entry_s x) × (make_s (entry_s x) ≡ x)
-    pub goal_read : (n : ℕ) → n ≤ most_of k → (e : Entry) → ValidEntry k Goal n e → GoodG n (make_g e) × (entry_g (make_g e) ≡ e)
-    pub goal_written : (n : ℕ) → n ≤ most_of k → (x : G) → GoodG n x → ValidEntry k Goal n (entry_g x) × (make_g (entry_g x) ≡ x)
-
-  pub record ValidParts (f : File S G) : Type 0 where
-    pub size_low : 1 ≤ f.size
-    pub size_high : f.size ≤ most_of k
-    pub actions_low : 1 ≤ length f.actions
-    pub actions_high : length f.actions ≤ 120
-    pub goals_low : 1 ≤ length f.goals
-    pub goals_high : length f.goals ≤ 32
-    pub start_in : f.start < limit_of f.size (start_of k)
-    pub actions_good : AllByRecursion (GoodS f.size) f.actions
-    pub goals_good : AllByRecursion (GoodG f.size) f.goals
+  abbrev Valid : File S G → Type 0
+  Valid f = ValidParts k make_s entry_s make_g entry_g GoodS GoodG f
 
   -- a typed file as it was made of bare records, and those of a typed one
   abbrev pub typed : RawFile → File S G
@@ -49,12 +34,8 @@ module _ {S G : Type 0} (k : Kind) (make_s : Entry → S) (entry_s : S → Entry
   abbrev pub bare : File S G → RawFile
   bare f = raw_of entry_s entry_g f.size f.start f.actions f.goals
 
-  typed_ok : (r : Result RawFile ReadFault) (f : File S G) → file_with make_s make_g r ≡ Ok f → (raw : RawFile) × (r ≡ Ok raw) × (typed raw ≡ f)
-  typed_ok (Ok raw) f e = (raw, refl, ok_same _ f e)
-  typed_ok (Err g) f e = ok_or_err f g e
-
-  module _ (c : Converts) where
-    bare_typed : (f : RawFile) → ValidFile k f → ValidParts (typed f) × (bare (typed f) ≡ f)
+  module _ (c : Converts k make_s entry_s make_g entry_g GoodS GoodG) where
+    bare_typed : (f : RawFile) → ValidFile k f → Valid (typed f) × (bare (typed f) ≡ f)
     bare_typed f v =
         let n = f.size in (
           record {
@@ -72,7 +53,7 @@ module _ {S G : Type 0} (k : Kind) (make_s : Entry → S) (entry_s : S → Entry
               ∙ ap (λ ys. record { size = n; start = f.start; actions = f.actions; goals = ys }) (all_back (ValidEntry k Goal n) (GoodG n) make_g entry_g (c.goal_read n v.size_high) f.goals v.goals_valid),
         )
 
-    typed_bare : (f : File S G) → ValidParts f → ValidFile k (bare f) × (typed (bare f) ≡ f)
+    typed_bare : (f : File S G) → Valid f → ValidFile k (bare f) × (typed (bare f) ≡ f)
     typed_bare f v =
         let n = f.size in (
           record {
@@ -90,15 +71,15 @@ module _ {S G : Type 0} (k : Kind) (make_s : Entry → S) (entry_s : S → Entry
               ∙ ap (λ ys. record { size = n; start = f.start; actions = f.actions; goals = ys }) (all_back (GoodG n) (ValidEntry k Goal n) entry_g make_g (c.goal_written n v.size_high) f.goals v.goals_good),
         )
 
-    pub parts_read : (bs : List ℕ) → ReadExactly k bs → (f : File S G) → file_with make_s make_g (read_file k bs) ≡ Ok f → ValidParts f × (bs ≡ file_bytes k (bare f))
+    pub parts_read : (bs : List ℕ) → ReadExactly k bs → (f : File S G) → file_with make_s make_g (read_file k bs) ≡ Ok f → Valid f × (bs ≡ file_bytes k (bare f))
     parts_read bs exact f e =
-        let was = typed_ok (read_file k bs) f e in
+        let was = known_ok typed (read_file k bs) f e in
         let raw = was.0 in
         let known = exact.only raw was.1 in
         let same = bare_typed raw known.0 in
-        subst (λ f. ValidParts f × (bs ≡ file_bytes k (bare f))) was.2 (same.0, known.1 ∙ ap (file_bytes k) (sym same.1))
+        subst (λ f. Valid f × (bs ≡ file_bytes k (bare f))) was.2 (same.0, known.1 ∙ ap (file_bytes k) (sym same.1))
 
-    pub parts_written : (f : File S G) → ValidParts f → file_with make_s make_g (read_file k (file_bytes k (bare f))) ≡ Ok f
+    pub parts_written : (f : File S G) → Valid f → file_with make_s make_g (read_file k (file_bytes k (bare f))) ≡ Ok f
     parts_written f v =
         let same = typed_bare f v in
         ap (file_with make_s make_g) (file_written k (bare f) same.0) ∙ ap Ok same.1

@@ -5,5 +5,6 @@ pub mod Contents
 pub mod Reading
 pub mod Cursors
 pub mod Exact
+pub mod Parts
 pub mod Outcome
 pub mod Writing

@@ -1,5 +1,6 @@
 -- Reading a file: the questions in order, and the refusal at the first that is answered no.
 use Rattle.std.specs.Prelude.{ℕ, zero, suc, ◌+◌, ◌/◌, ◌%◌, ◌^◌, Bool, true, false, if◌then◌else◌, ◌&&◌, List, [], ◌∷◌, map, length, take, drop, Ok, Err, Result, ◌==◌, nat_le, nat_lt, slice_index}
+use Rattle.std.specs.Result.{result_map_both}
 use Rattle.domain.specs.declared.fault.Position.{Position}
 use Rattle.domain.specs.declared.fault.ReadFault.{ReadFault}
 use Rattle.domain.specs.declared.fault.ReadFault.TheVariants as fault
@@ -15,9 +16,13 @@ use Rattle.files.specs.Numbers.{little}
 abbrev pub position : ℕ → ℕ → Position
 position r at = record { «record» = r; byte = at }
 
-abbrev pub and_then : {X Y : Type 0} → Result X ReadFault → (X → Result Y ReadFault) → Result Y ReadFault
+abbrev pub and_then : {X Y E : Type 0} → Result X E → (X → Result Y E) → Result Y E
 and_then (Ok x) f = f x
 and_then (Err e) f = Err e
+
+-- what was read, told in other words
+abbrev pub known_as : {X Y E : Type 0} → (X → Y) → Result X E → Result Y E
+known_as words r = result_map_both words (λ e. e) r
 
 -- the value of a field that begins at a byte
 abbrev pub value_at : List ℕ → ℕ → Field → ℕ
@@ -35,8 +40,7 @@ abbrev pub is_odd : ℕ → Bool
 is_odd n = n % 2 == 1
 
 abbrev pub with_first : {X Y : Type 0} → X → Result (List X × Y) ReadFault → Result (List X × Y) ReadFault
-with_first x (Ok y) = Ok (x ∷ y.0, y.1)
-with_first x (Err e) = Err e
+with_first x r = known_as (λ y. (x ∷ y.0, y.1)) r
 
 -- the fields that a bit map tells of, from its lowest bit on: their values, the bits that are left, and the byte after them
 abbrev pub read_fields : List ℕ → ℕ → ℕ → ℕ → ℕ → List Field → Result (List ℕ × (ℕ × ℕ)) ReadFault
@@ -45,8 +49,7 @@ read_fields bs size r at map (f ∷ fs) = and_then (read_field bs size r at f (i
 
 -- values that stand in a place of their own, put beside what else was read
 abbrev pub joined_to : {X Y : Type 0} → X → Result Y ReadFault → Result (X × Y) ReadFault
-joined_to x (Ok y) = Ok (x, y)
-joined_to x (Err e) = Err e
+joined_to x r = known_as (λ y. (x, y)) r
 
 -- how many bytes those fields take
 abbrev pub size_of : ℕ → List Field → ℕ
@@ -54,8 +57,7 @@ size_of map [] = 0
 size_of map (f ∷ fs) = (if is_odd map then bytes_of f else 0) + size_of (map / 2) fs
 
 abbrev pub as_entry : Result (List ℕ × (ℕ × ℕ)) ReadFault → Result (Entry × ℕ) ReadFault
-as_entry (Ok x) = Ok (record { values = x.0; marked = is_odd x.1.0 }, x.1.1)
-as_entry (Err e) = Err e
+as_entry r = known_as (λ x. (record { values = x.0; marked = is_odd x.1.0 }, x.1.1)) r
 
 -- a record: its bit map is there, has only defined bits, its fields are there, and each is in range
 abbrev pub read_record : Kind → Part → ℕ → List ℕ → ℕ → ℕ → Result (Entry × ℕ) ReadFault
@@ -117,18 +119,14 @@ read_file k bs = and_then (read_header k bs) (read_body k bs)
 -- What the records stand for.
 
 abbrev pub part_with : {X : Type 0} → (Entry → X) → Result (Entry × ℕ) ReadFault → Result (X × ℕ) ReadFault
-part_with make (Ok y) = Ok (make y.0, y.1)
-part_with make (Err e) = Err e
+part_with make r = known_as (λ y. (make y.0, y.1)) r
 
 abbrev pub parts_with : {X : Type 0} → (Entry → X) → Result (List Entry × ℕ) ReadFault → Result (List X × ℕ) ReadFault
-parts_with make (Ok y) = Ok (map make y.0, y.1)
-parts_with make (Err e) = Err e
+parts_with make r = known_as (λ y. (map make y.0, y.1)) r
 
 abbrev pub file_with : {S G : Type 0} → (Entry → S) → (Entry → G) → Result RawFile ReadFault → Result (File S G) ReadFault
-file_with make_s make_g (Ok f) = Ok (record { size = f.size; start = f.start; actions = map make_s f.actions; goals = map make_g f.goals })
-file_with make_s make_g (Err e) = Err e
+file_with make_s make_g r = known_as (λ f. record { size = f.size; start = f.start; actions = map make_s f.actions; goals = map make_g f.goals }) r
 
 -- lists that stand in places of their own, made a file with the header that was read
 abbrev pub headed : {S G : Type 0} → List S → List G → Result Header ReadFault → Result (File S G) ReadFault
-headed actions goals (Ok h) = Ok (record { size = h.size; start = h.start; actions = actions; goals = goals })
-headed actions goals (Err e) = Err e
+headed actions goals r = known_as (λ h. record { size = h.size; start = h.start; actions = actions; goals = goals }) r

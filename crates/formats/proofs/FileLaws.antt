@@ -1,11 +1,12 @@
 -- Reading and writing the parts of a domain are inverse to each other.
-use Rattle.std.proofs.Common.{◌≡◌, ◌↔◌, ℕ, List, Ok, Err, Result, sym, refl, ap, ◌∙◌, subst}
+use Rattle.std.proofs.Common.{◌≡◌, ◌↔◌, ℕ, List, Ok, Result, sym, ap, ◌∙◌, subst}
 use Rattle.domain.specs.declared.fault.ReadFault.{ReadFault}
 use Rattle.files.specs.declared.kind.Kind.{Kind}
 use Rattle.files.specs.Contents.{Entry, File}
 use Rattle.files.specs.Exact as files
-use Rattle.files.proofs.Outcomes.{ok_same, ok_or_err}
-use Rattle.files.proofs.Typed.{Converts, ValidParts, parts_read, parts_written}
+use Rattle.files.specs.Parts.{Converts, ValidParts}
+use Rattle.files.proofs.Outcomes.{known_ok}
+use Rattle.files.proofs.Typed.{parts_read, parts_written}
 use Rattle.formats.specs.Files.{parts_file, read_parts, known_as, ReadExactly}
 
 module _ {S G : Type 0} {k : Kind} {make_s : Entry → S} {entry_s : S → Entry} {make_g : Entry → G} {entry_g : G → Entry} {GoodS : ℕ → S → Type 0} {GoodG : ℕ → G → Type 0} {Limits : File S G → Type 0} (converts : Converts k make_s entry_s make_g entry_g GoodS GoodG) (same : (f : File S G) → Limits f ↔ ValidParts k make_s entry_s make_g entry_g GoodS GoodG f) where
@@ -25,15 +26,11 @@ module _ {S G : Type 0} {k : Kind} {make_s : Entry → S} {entry_s : S → Entry
 
 -- what was read, told in other words
 module _ {X Y : Type 0} (words : X → Y) where
-  pub known_ok : (r : Result X ReadFault) (y : Y) → known_as words r ≡ Ok y → (x : X) × (r ≡ Ok x) × (words x ≡ y)
-  known_ok (Ok x) y e = (x, refl, ok_same _ y e)
-  known_ok (Err f) y e = ok_or_err y f e
-
-  -- and bytes are then read exactly when they are the file of that
+  -- bytes are then read exactly when they are the file of that
   pub known_exactly : (read : List ℕ → Result X ReadFault) (file : Y → List ℕ) (Limits : Y → Type 0) (bs : List ℕ) (back : Y → X) → ((y : Y) → words (back y) ≡ y)
       → ReadExactly read (λ x. file (words x)) (λ x. Limits (words x)) bs → ReadExactly (λ bs. known_as words (read bs)) file Limits bs
   known_exactly read file Limits bs back there exact = record {
-    only = λ y e. let was = known_ok (read bs) y e in subst (λ y. Limits y × (bs ≡ file y)) was.2 (exact.only was.0 was.1);
+    only = λ y e. let was = known_ok words (read bs) y e in subst (λ y. Limits y × (bs ≡ file y)) was.2 (exact.only was.0 was.1);
     every = λ y l e. ap (known_as words) (exact.every (back y) (subst Limits (there' y) l) (e ∙ ap file (there' y))) ∙ ap Ok (there y);
   }
     where

@@ -1,6 +1,6 @@
 // What the files of one kind of domain hold.
 ghost use Rattle.std.specs.Prelude.{◌↔◌, ℕ};
-ghost use Rattle.files.proofs.Typed.{Converts, ValidParts};
+ghost use Rattle.files.specs.Parts.{Converts, ValidParts};
 ghost use Rattle.files.specs.Contents.{File};
 ghost use Rattle.files.specs.declared.kind.Kind.{Kind};
 

@@ -3,7 +3,7 @@ use Rattle.std.proofs.Common.{◌≡◌, ℕ, Bool, true, false, if◌then◌els
 use Rattle.files.proofs.Numerals.{bytes_typed}
 use Rattle.files.proofs.WholeFiles.{read_exactly}
 use Rattle.files.specs.declared.kind.Kind.TheVariants as kind
-use Rattle.formats.proofs.FileLaws.{known_ok}
+use Rattle.files.proofs.Outcomes.{known_ok}
 use Rattle.formats.specs.Files as files
 use Rattle.cards.proofs.FileLaws.{card_again, card_exactly}
 use Rattle.cards.specs.CardFiles as card

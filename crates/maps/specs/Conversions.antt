@@ -5,7 +5,7 @@ use Rattle.std.proofs.lemmas.List.Elements.{All-from_recursion, recursion_from_A
 use Rattle.files.specs.declared.kind.Kind.TheVariants as kind
 use Rattle.files.specs.declared.kind.Part.TheVariants as part
 use Rattle.files.specs.Contents.{File, ValidEntry}
-use Rattle.files.proofs.Typed.{Converts, ValidParts}
+use Rattle.files.specs.Parts.{Converts, ValidParts}
 use Rattle.maps.specs.declared.moves.Move.{Move}
 use Rattle.maps.specs.declared.place.Place.{Place}
 use Rattle.maps.specs.Limits.{Among, MoveAmong, InLimits, map_of}
