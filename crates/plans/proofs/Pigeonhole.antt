@@ -5,7 +5,6 @@ use Rattle.std.specs.Set.{is_member}
 use Rattle.std.proofs.lemmas.Bool.Decides.{Decides-eqb}
 use Rattle.std.proofs.lemmas.Cmp.{nat_eq_equiv}
 use Rattle.std.proofs.lemmas.List.{get_or_default}
-use Rattle.std.proofs.lemmas.List.Elements.{Contains-from_at}
 use Rattle.std.proofs.lemmas.Map.Made.{is_member-Decides, IsDistinct-from_AllPairs, length-le_from_is_member}
 use Rattle.domain.specs.Meaning.{Meaning}
 use Rattle.plans.specs.Reachable.{Reachable, NeverBoth}
@@ -16,5 +15,5 @@ never_both d n few many =
     let among : (s : ℕ) → is_member eqb many.states s ≡ true → is_member eqb few.states s ≡ true = λ s m.
     let k = (is_member-Decides Decides-eqb many.states s).0 m in
     let reached = subst (Reachable d) (get_or_default many.states k.0 0 s k.1 ∙ k.2) (many.each k.0 k.1) in
-    (is_member-Decides Decides-eqb few.states s).1 (Contains-from_at few.states s (few.all s reached)) in
+    (is_member-Decides Decides-eqb few.states s).1 (few.all s reached) in
     omega (arith, few.few, many.many, length-le_from_is_member nat_eq_equiv many.states few.states distinct among)

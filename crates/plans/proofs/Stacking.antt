@@ -1,7 +1,8 @@
 -- The plans of a stack of logs.
 use Rattle.std.proofs.Common.{ℕ, List, [], ◌∷◌, sym}
 use Rattle.std.proofs.lemmas.Bool.{true≢false}
-use Rattle.plans.specs.Logs.{Logged, Whole}
+use Rattle.std.proofs.lemmas.List.Elements.{All-nil, All-cons, All-head, All-tail}
+use Rattle.plans.specs.Logs.{Carries, Logged, Whole}
 use Rattle.domain.specs.Meaning.{Meaning}
 use Rattle.plans.specs.Laws.{WholeLaws}
 use Rattle.plans.specs.Stacks.{stack, Stackable, MarksLogged, WholeBelow, StackLaws}
@@ -18,7 +19,7 @@ marks_up b log (inner ∷ logs) plan m = ((λ a o marked. absurd (true≢false (
 
 pub stack_laws : (b : Meaning) (logs : List (List ℕ)) → Stackable b logs → StackLaws b logs
 stack_laws b [] ok = record {
-  complete_whole = λ g plan p. record { plan_for = p.plan_for; marks = tt; carries = tt; complete = p.complete };
+  complete_whole = λ g plan p. record { plan_for = p.plan_for; marks = tt; carries = All-nil (λ log. Carries log plan); complete = p.complete };
   whole_complete = λ g plan w. record { plan_for = w.plan_for; complete = w.complete };
 }
 stack_laws b (log ∷ logs) ok =
@@ -31,11 +32,11 @@ stack_laws b (log ∷ logs) ok =
           record {
             plan_for = down.plan_for;
             marks = marks_down b log logs plan whole.admitted.logged down.marks;
-            carries = (whole.carries, down.carries);
+            carries = All-cons (λ l. Carries l plan) log logs whole.carries down.carries;
             complete = down.complete;
           };
       whole_complete = λ g plan w.
           let marks = marks_up b log logs plan w.marks in
-          let inner = rest.whole_complete g plan (record { plan_for = w.plan_for; marks = marks.1; carries = w.carries.1; complete = w.complete }) in
-          top.whole_complete g plan (record { admitted = record { plan_for = inner.plan_for; logged = marks.0 }; carries = w.carries.0; complete = inner.complete });
+          let inner = rest.whole_complete g plan (record { plan_for = w.plan_for; marks = marks.1; carries = All-tail (λ l. Carries l plan) log logs w.carries; complete = w.complete }) in
+          top.whole_complete g plan (record { admitted = record { plan_for = inner.plan_for; logged = marks.0 }; carries = All-head (λ l. Carries l plan) log logs w.carries; complete = inner.complete });
     }

@@ -1,6 +1,5 @@
 -- The states that can be reached from the start, and how many there are.
-use Rattle.std.specs.Prelude.{◌≡◌, ℕ, ◌<◌, ◌≤◌, List, length, ◌≢◌, slice_index}
-use Rattle.std.specs.List.{ContainsAt}
+use Rattle.std.specs.Prelude.{◌≡◌, ℕ, ◌<◌, ◌≤◌, List, length, ◌≢◌, slice_index, Contains}
 use Rattle.domain.specs.Meaning.{Meaning}
 use Rattle.plans.specs.Plans.{after, RunsAll}
 
@@ -12,7 +11,7 @@ Reachable d s = (list : List ℕ) × (RunsAll d d.start list × (after d d.start
 pub record AtMost (d : Meaning) (n : ℕ) : Type 0 where
   pub states : List ℕ
   pub few : length states ≤ n
-  pub all : (s : ℕ) → Reachable d s → ContainsAt states s
+  pub all : (s : ℕ) → Reachable d s → Contains states s
 
 -- more than n reachable states: some list of more than n states has different ones, all reachable
 pub record MoreThan (d : Meaning) (n : ℕ) : Type 0 where

@@ -1,6 +1,5 @@
 -- Several logs on one domain: a watched domain over a watched domain, and so on.
-use Rattle.std.specs.Prelude.{◌≡◌, ℕ, true, List, [], ◌∷◌}
-use Rattle.std.specs.List.{AllByRecursion}
+use Rattle.std.specs.Prelude.{◌≡◌, ℕ, true, List, [], ◌∷◌, All}
 use Rattle.plans.specs.Logs.{Carries, Logged}
 use Rattle.domain.specs.Meaning.{Meaning, Limits}
 use Rattle.plans.specs.Plans.{after, PlanFor, CompletePlan}
@@ -26,7 +25,7 @@ MarksLogged b (log ∷ (inner ∷ logs)) plan = MarksLogged b (inner ∷ logs) p
 pub record WholeBelow (b : Meaning) (logs : List (List ℕ)) (g : ℕ) (plan : List ℕ) : Type 0 where
   pub plan_for : PlanFor b g plan
   pub marks : MarksLogged b logs plan
-  pub carries : AllByRecursion (λ log. Carries log plan) logs
+  pub carries : All (λ log. Carries log plan) logs
   pub complete : b.complete (after b b.start plan) ≡ true
 
 -- a plan of the stack that ends complete is whole for all its logs, and the other way round

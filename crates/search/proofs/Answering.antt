@@ -1,8 +1,8 @@
 -- A finished table answers for every list of actions.
 use Rattle.std.proofs.Common.{◌≡◌, ℕ, zero, suc, ◌+◌, ◌<◌, ◌≤◌, Bool, true, false, List, [], ◌∷◌, length, take, Some, None, Option, sym, refl, ap, ◌∙◌, subst, ⊎_elim, add-zero, add_assoc, arith}
 use Rattle.std.specs.Option.{option_map, option_or}
-use Rattle.std.specs.List.{ContainsAt}
-use Rattle.std.proofs.ByRecursion.{has_append_right}
+use Rattle.std.specs.List.{Contains}
+use Rattle.std.proofs.lemmas.List.Elements.{Contains-append_right}
 use Rattle.std.proofs.lemmas.List.{length-take-le}
 use Rattle.std.proofs.lemmas.Option.{none-some}
 use Rattle.std.proofs.lemmas.Bool.{cases_lt}
@@ -31,19 +31,19 @@ module _ (m : Meaning) (limits : Limits m) (nodes : ℕ → Node) (n : ℕ) (sol
   known_after plan r = let k = leads_on plan m.start 0 solved.start r in (k.0, (k.1.0, (k.1.1.0, omega (arith, k.1.1.1))))
 
   -- every reachable state is one of the rows' states
-  states_have : (k i : ℕ) → i < k → ContainsAt (states_of nodes k) (nodes i).state
+  states_have : (k i : ℕ) → i < k → Contains (states_of nodes k) (nodes i).state
   states_have zero i h = absurd (omega arith)
   states_have (suc k) i h =
       ⊎_elim
-      (λ l. has_append_right ((nodes k).state ∷ []) (states_of nodes k) (nodes i).state (states_have k i l))
-      (λ l. let same : k ≡ i = omega arith in (0, omega arith, λ d. ap (λ j. (nodes j).state) same))
+      (λ l. Contains-append_right ((nodes k).state ∷ []) (states_of nodes k) (nodes i).state (states_have k i l))
+      (λ l. let same : k ≡ i = omega arith in (0, omega arith, ap (λ j. (nodes j).state) same))
       (cases_lt i k)
 
   pub at_most : (rows : ℕ) → n ≤ rows → AtMost m rows
   at_most rows h = record {
     states = states_of nodes n;
     few = omega (arith, states_length nodes n);
-    all = λ s r. let k = known_after r.0 r.1.0 in subst (ContainsAt (states_of nodes n)) (k.1.1.0 ∙ r.1.1) (states_have n k.0 k.1.0);
+    all = λ s r. let k = known_after r.0 r.1.0 in subst (Contains (states_of nodes n)) (k.1.1.0 ∙ r.1.1) (states_have n k.0 k.1.0);
   }
 
   module _ (goal : ℕ) where
