@@ -1,11 +1,12 @@
 -- What is known of a card and a log of which all questions are answered yes.
-use Rattle.std.proofs.Common.{◌≡◌, ℕ, zero, suc, ◌+◌, ◌<◌, ◌≤◌, Bool, true, false, cond, leb, List, [], ◌∷◌, length, get_or, Ok, Err, Result, sym, refl, ap, ◌∙◌, subst, arith}
-use Rattle.std.proofs.lemmas.Bool.Decides.{nat_tests}
-use Rattle.std.proofs.lemmas.Bool.{and_parts, leb-true}
+use Rattle.std.proofs.Common.{◌≡◌, ℕ, ◌+◌, ◌<◌, ◌≤◌, Bool, true, false, cond, leb, ltb, List, length, get_or, Ok, Err, Result, sym, refl, ap, ◌∙◌, subst, arith}
+use Rattle.std.specs.List.{list_all}
+use Rattle.std.proofs.lemmas.Bool.{leb-true, ltb-true}
+use Rattle.std.proofs.lemmas.List.Sums.{AllPass-from_list_all}
 use Rattle.domain.specs.declared.fault.LogFault.{LogFault}
 use Rattle.domain.specs.declared.fault.LogFault.TheVariants.{Action, Full}
 use Rattle.cards.specs.Contents.{Contents}
-use Rattle.logs.specs.Reading.{all_below, read_log}
+use Rattle.logs.specs.Reading.{read_log}
 use Rattle.compile.specs.Questions.{fitting, then_fitting, accepted_log, Fits}
 use Rattle.compile.specs.declared.fault.CompileFault.TheVariants.{Fluents, Actions, Goals}
 
@@ -14,15 +15,10 @@ passed : {X E : Type 0} (b : Bool) (r : Result X E) (e : E) (x : X) → cond b r
 passed true r e x h = (refl, h)
 passed false r e x h = absurd cc
 
-below_at : (n : ℕ) (xs : List ℕ) → all_below n xs ≡ true → (j : ℕ) → j < length xs → get_or xs j 0 < n
-below_at n [] h j l = absurd (omega arith)
-below_at n (x ∷ xs) h zero l = grind (arith, nat_tests)
-below_at n (x ∷ xs) h (suc j) l = below_at n xs (and_parts _ _ h).1 j (omega arith)
-
-log_ok : (bytes log : List ℕ) (n : ℕ) → read_log bytes n ≡ Ok log → (log ≡ bytes) × (length bytes ≤ 20) × (all_below n bytes ≡ true)
+log_ok : (bytes log : List ℕ) (n : ℕ) → read_log bytes n ≡ Ok log → (log ≡ bytes) × (length bytes ≤ 20) × (list_all (λ a. ltb a n) bytes ≡ true)
 log_ok bytes log n h =
     let few = passed (leb (length bytes) 20) _ Full log h in
-    let below = passed (all_below n bytes) (Ok bytes) Action log few.1 in
+    let below = passed (list_all (λ a. ltb a n) bytes) (Ok bytes) Action log few.1 in
     ((cc below.1), leb-true (length bytes) 20 few.0, below.0)
 
 read_first : (c : Contents) (r : Result (List ℕ) LogFault) (log : List ℕ) → then_fitting c r ≡ Ok log → (read : List ℕ) × (r ≡ Ok read) × (fitting c read ≡ Ok log)
@@ -41,7 +37,7 @@ accepted_fits c bytes log h =
     let few : length read ≤ 20 = omega (arith, ap length told.0, told.1) in
     let fits : Fits c read = record {
       few = few;
-      entries_below = λ j l. subst (λ xs. j < length xs → get_or xs j 0 < length c.actions) (sym told.0) (below_at (length c.actions) bytes told.2 j) l;
+      entries_below = λ j l. subst (λ xs. j < length xs → get_or xs j 0 < length c.actions) (sym told.0) (λ h. ltb-true _ _ (AllPass-from_list_all (λ a. ltb a (length c.actions)) bytes told.2 j 0 h)) l;
       fluents_high = leb-true (c.fluents + length read) 55 fluents.0;
       actions_high = leb-true (length c.actions + length read) 120 actions.0;
       goals_high = leb-true (length c.goals + length c.goals) 32 goals.0;

@@ -1,20 +1,16 @@
 -- Reading a log from bytes, an entry to a byte: the questions in order.
-use Rattle.std.specs.Prelude.{ℕ, Bool, true, if◌then◌else◌, ◌&&◌, List, [], ◌∷◌, length, Ok, Err, Result, nat_le, nat_lt}
+use Rattle.std.specs.Prelude.{ℕ, if◌then◌else◌, List, length, Ok, Err, Result, nat_le, nat_lt}
+use Rattle.std.specs.List.{list_all}
 use Rattle.domain.specs.declared.fault.LogFault.{LogFault}
 use Rattle.domain.specs.declared.fault.LogFault.TheVariants.{Action, Full}
 use Rattle.logs.specs.declared.log.ObservationLog.{ObservationLog}
 use Rattle.logs.specs.Entries.{entries}
 
--- every entry is below the count of actions
-abbrev pub all_below : ℕ → List ℕ → Bool
-all_below actions [] = true
-all_below actions (a ∷ rest) = nat_lt a actions && all_below actions rest
-
 -- at most 20 entries, and each is an action
 abbrev pub read_log : List ℕ → ℕ → Result (List ℕ) LogFault
 read_log bytes actions =
     if nat_le (length bytes) 20 then
-    if all_below actions bytes then
+    if list_all (λ a. nat_lt a actions) bytes then
     Ok bytes
     else Err Action
     else Err Full

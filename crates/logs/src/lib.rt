@@ -1,7 +1,7 @@
 // The observation log.
 #![tactic(auto)]
 
+pub mod following;
 pub mod log;
-pub mod log_entries;
 #[cfg(test)]
 mod log_tests;
