@@ -3,4 +3,3 @@
 
 pub mod watched;
 pub mod watched_domain;
-pub mod watched_log;

@@ -1,7 +1,6 @@
 // A watched domain is again a domain.
 ghost use Rattle.std.specs.Prelude.{◌≡◌, ◌+◌, ◌^◌, ◌<◌, length, nat_le, nat_lt};
 ghost use Rattle.logs.specs.Entries.{entries};
-ghost use Rattle.plans.specs.Counting.{may_run, advance};
 ghost use Rattle.plans.specs.Watched.{extra_bits, log_over, below, count, watched};
 ghost use Rattle.logs.proofs.Fronts.{few_entries};
 ghost use Rattle.plans.proofs.Watching.{watched_limits};
@@ -9,6 +8,7 @@ ghost use Rattle.plans.proofs.Watching.{watched_limits};
 use crate::watched::Watched;
 use domain::Domain;
 use domain::limits::MOST_WIDTH_BELOW;
+use logs::following::{advance, may_run};
 
 impl<D: Domain> Watched<D> {
     // Whether the domain leaves room for a count of entries.
@@ -25,33 +25,14 @@ impl<D: Domain> Watched<D> {
         self.domain.width() + if self.is_narrow() { 5 } else { 0 }
     }
 
-    // How many entries are followed: none over a domain that is too wide.
-    fn followed(&self) -> usize
-        ensures { result ≡ length (log_over (D.meaning self.now.domain) (entries self.now.log)) }
-    {
-        if self.is_narrow() { self.log.len() } else { 0 }
-    }
-
-    // Whether the log that is followed lets the action run.
-    fn may_run(&self, action: u8) -> bool
-        ensures { result ≡ may_run (log_over (D.meaning self.now.domain) (entries self.now.log)) action ((D.meaning self.now.domain).marked action) }
-    {
-        let marked = self.domain.marked(action);
-        if self.is_narrow() {
-            self.log.may_run(action, marked)
-        } else {
-            !marked
-        }
-    }
-
-    // How many entries are carried once the action has run, if count were before.
-    fn advance(&self, count: usize, action: u8) -> usize
-        ensures { result ≡ advance (log_over (D.meaning self.now.domain) (entries self.now.log)) count action }
+    // The entries that are followed: none over a domain that is too wide.
+    fn followed(&self) -> &[u8]
+        ensures { result.now ≡ log_over (D.meaning self.now.domain) (entries self.now.log) }
     {
         if self.is_narrow() {
-            self.log.advance(count, action)
+            self.log.as_slice()
         } else {
-            count
+            &[]
         }
     }
 
@@ -98,10 +79,11 @@ impl<D: Domain> Domain for Watched<D> {
     }
 
     fn runs(&self, state: u64, action: u8) -> bool {
+        let log = self.followed();
         self.is_state(state)
-            && self.count(state) <= self.followed() as u64
+            && self.count(state) <= log.len() as u64
             && self.domain.runs(self.below(state), action)
-            && self.may_run(action)
+            && may_run(log, action, self.domain.marked(action))
     }
 
     fn next(&self, state: u64, action: u8) -> u64 {
@@ -109,7 +91,7 @@ impl<D: Domain> Domain for Watched<D> {
             return state;
         }
         let below = self.below(state);
-        let carried = self.advance(self.count(state) as usize, action);
+        let carried = advance(self.followed(), self.count(state) as usize, action);
         self.domain.next(below, action) + ((carried as u64) << self.domain.width())
     }
 
@@ -129,6 +111,6 @@ impl<D: Domain> Domain for Watched<D> {
     fn complete(&self, state: u64) -> bool {
         self.is_state(state)
             && self.domain.complete(self.below(state))
-            && self.count(state) == self.followed() as u64
+            && self.count(state) == self.followed().len() as u64
     }
 }
