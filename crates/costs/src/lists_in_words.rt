@@ -1,6 +1,5 @@
 // A list of actions beside a domain, judged by a log. Places of the list and entries of the log count from 0.
 use crate::refusals_in_words::Refused;
-use anyhow::Context;
 use domain::Domain;
 use judge::carrying::carried;
 use judge::course::Course;
@@ -39,7 +38,7 @@ impl<D: Domain> Judged<'_, D> {
 
     fn say_carried(&self, rt: &HostRuntime) -> anyhow::Result<()> {
         let mut places = [0; ObservationLog::MOST];
-        let count = carried(self.log, self.list, &mut places).context("no room for the places")?;
+        let count = carried(self.log, self.list, &mut places)?;
         if let Some(action) = self.log.entry(count) {
             println!(rt; "  does not carry entry {count} of the log, action {action}")?;
         } else if count == 0 {

@@ -1,20 +1,23 @@
 // What a list of actions carries of a log.
-ghost use Rattle.std.specs.Prelude.{◌≡◌, length, drop, is_some, IfSome, MatchOption, nat_le};
+ghost use Rattle.std.specs.Prelude.{◌≡◌, length, drop, is_ok, IfOk, IfErr, MatchResult, nat_le};
 ghost use Rattle.logs.specs.Entries.{entries};
 ghost use Rattle.judge.specs.Carried.{CarriedAt, NoneLonger};
+ghost use Rattle.judge.specs.declared.fault.CarryFault.TheVariants.{Place};
 
+use crate::fault::CarryFault;
 use logs::log::ObservationLog;
 
 // How many entries from the log's front the list carries. The caller lends the places, and nothing is allocated.
-// Their places go into the front of `places`, whose rest stays; None, with nothing written, where it is shorter than the log.
-pub fn carried(log: &ObservationLog, list: &[u8], places: &mut [usize]) -> Option<usize>
-    ensures room { is_some result ≡ nat_le (length (entries log.now)) (length places.old) }
-    ensures rest { MatchOption result (places.new ≡ places.old) (λ count. drop count places.new ≡ drop count places.old) }
-    ensures carried { IfSome result (λ count. CarriedAt (entries log.now) list.now places.new count) }
-    ensures most { IfSome result (λ count. NoneLonger (entries log.now) list.now count) }
+// Their places go into the front of `places`, whose rest stays; where it is shorter than the log, nothing is written.
+pub fn carried(log: &ObservationLog, list: &[u8], places: &mut [usize]) -> Result<usize, CarryFault>
+    ensures room { is_ok result ≡ nat_le (length (entries log.now)) (length places.old) }
+    ensures fault { IfErr result (λ fault. fault ≡ Place) }
+    ensures rest { MatchResult result (λ count. drop count places.new ≡ drop count places.old) (λ _. places.new ≡ places.old) }
+    ensures carried { IfOk result (λ count. CarriedAt (entries log.now) list.now places.new count) }
+    ensures most { IfOk result (λ count. NoneLonger (entries log.now) list.now count) }
 {
     if places.len() < log.len() {
-        return None;
+        return Err(CarryFault::Place);
     }
     let mut count = 0;
     for (place, action) in list.iter().enumerate() {
@@ -24,5 +27,5 @@ pub fn carried(log: &ObservationLog, list: &[u8], places: &mut [usize]) -> Optio
         }
         count = grown;
     }
-    Some(count)
+    Ok(count)
 }

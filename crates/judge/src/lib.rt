@@ -3,4 +3,5 @@
 
 pub mod carrying;
 pub mod course;
+pub mod fault;
 pub mod marks;
