@@ -4,11 +4,14 @@ use Rattle.domain.specs.Meaning.{Meaning}
 use Rattle.plans.specs.Counting.{may_run, advance}
 
 -- a count of entries takes five bits, so a domain that is wider than 55 has no room for one, and its log stays empty
+abbrev pub is_narrow : Meaning → Bool
+is_narrow d = nat_le d.width 55
+
 abbrev pub extra_bits : Meaning → ℕ
-extra_bits d = if nat_le d.width 55 then 5 else 0
+extra_bits d = if is_narrow d then 5 else 0
 
 abbrev pub log_over : Meaning → List ℕ → List ℕ
-log_over d log = if nat_le d.width 55 then log else []
+log_over d log = if is_narrow d then log else []
 
 -- a watched state is the state below and, above its bits, the count
 abbrev pub below : Meaning → ℕ → ℕ

@@ -1,7 +1,7 @@
 // A watched domain is again a domain.
-ghost use Rattle.std.specs.Prelude.{◌≡◌, ◌+◌, ◌^◌, ◌<◌, length, nat_le, nat_lt};
+ghost use Rattle.std.specs.Prelude.{◌≡◌, ◌+◌, ◌^◌, nat_lt};
 ghost use Rattle.logs.specs.Entries.{entries};
-ghost use Rattle.plans.specs.Watched.{extra_bits, log_over, below, count, watched};
+ghost use Rattle.plans.specs.Watched.{is_narrow, extra_bits, log_over, below, count, watched};
 ghost use Rattle.logs.proofs.Fronts.{few_entries};
 ghost use Rattle.plans.proofs.Watching.{watched_limits};
 
@@ -13,7 +13,7 @@ use logs::following::{advance, may_run};
 impl<D: Domain> Watched<D> {
     // Whether the domain leaves room for a count of entries.
     pub(crate) fn is_narrow(&self) -> bool
-        ensures { result ≡ nat_le (D.meaning self.now.domain).width 55 }
+        ensures { result ≡ is_narrow (D.meaning self.now.domain) }
     {
         self.domain.width() <= MOST_WIDTH_BELOW
     }
