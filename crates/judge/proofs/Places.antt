@@ -1,6 +1,7 @@
 -- The places of the entries that a list carries, one action after another.
 use Rattle.std.proofs.Common.{◌≡◌, ℕ, ◌+◌, ◌<◌, ◌≤◌, List, [], ◌∷◌, ◌++◌, length, get_or, take, drop, set, sym, refl, ap, ◌∙◌, subst, ⊎_elim, arith}
 use Rattle.std.proofs.lemmas.List.{take_more, length_push, length-take-le, get_or_append_left, get_or_push, get_or-set_same, get_or-set_other, get_or-take, drop-set-lt, drop-drop}
+use Rattle.std.proofs.lemmas.List.Sums.{fold_more}
 use Rattle.std.proofs.lemmas.Bool.Decides.{nat_tests}
 use Rattle.std.proofs.lemmas.Bool.{cases_lt}
 use Rattle.plans.specs.Counting.{advance, advance_all}
@@ -56,10 +57,6 @@ module _ (log list places : List ℕ) (count a : ℕ) (carried : CarriedAt log l
     }
 
 -- the count of carried entries, and why no longer beginning of the log is carried
-pub count_push : (log : List ℕ) (k a : ℕ) (list : List ℕ) → advance_all log k (list ++ (a ∷ [])) ≡ advance log (advance_all log k list) a
-count_push log k a [] = refl
-count_push log k a (x ∷ list) = count_push log (advance log k x) a list
-
 count_high : (log : List ℕ) (k : ℕ) (list : List ℕ) → k ≤ advance_all log k list
 count_high log k [] = omega arith
 count_high log k (a ∷ list) = omega (arith, advance_high log k a, count_high log (advance log k a) list)
@@ -101,7 +98,7 @@ module _ (log list before places : List ℕ) (n count grown : ℕ) (followed : F
   longer = take_more list n 0 inside
 
   counted : grown ≡ advance_all log 0 (take (n + 1) list)
-  counted = is-grown ∙ ap (λ k. advance log k (get_or list n 0)) followed.counted ∙ sym (ap (advance_all log 0) longer ∙ count_push log 0 (get_or list n 0) (take n list))
+  counted = is-grown ∙ ap (λ k. advance log k (get_or list n 0)) followed.counted ∙ sym (fold_more (advance log) 0 list n 0 inside)
 
   pub followed_passed : grown ≤ count → Followed log list before places (n + 1) grown
   followed_passed h =

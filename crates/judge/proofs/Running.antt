@@ -1,9 +1,10 @@
 -- The first actions of a list, run one after another from the start.
 use Rattle.std.proofs.Common.{◌≡◌, ℕ, ◌+◌, ◌*◌, ◌<◌, ◌≤◌, true, List, [], ◌∷◌, ◌++◌, length, get_or, take, sym, ap, ◌∙◌, subst, arith}
 use Rattle.std.proofs.lemmas.List.{take_more}
+use Rattle.std.proofs.lemmas.List.Sums.{fold_more}
 use Rattle.domain.specs.Meaning.{Meaning}
 use Rattle.plans.specs.Plans.{after, RunsAll, cost_of}
-use Rattle.plans.proofs.Running.{after_append, runs_append, cost_append}
+use Rattle.plans.proofs.Running.{runs_append, cost_append}
 
 -- the first n actions run, lead to a state and have a cost, which is at most 65535 for each
 pub record Ran (d : Meaning) (list : List ℕ) (n state cost : ℕ) : Type 0 where
@@ -21,7 +22,7 @@ module _ (d : Meaning) (list : List ℕ) (n state cost : ℕ) (ran : Ran d list 
       let grown : take (n + 1) list ≡ front ++ (a ∷ []) = take_more list n 0 inside in
       record {
         runs = subst (RunsAll d d.start) (sym grown) (runs_append d front (a ∷ []) d.start ran.runs (ap (λ s. d.runs s a) (sym ran.last) ∙ can, tt));
-        last = is-next ∙ ap (λ s. d.next s a) ran.last ∙ sym (ap (after d d.start) grown ∙ after_append d front (a ∷ []) d.start);
+        last = is-next ∙ ap (λ s. d.next s a) ran.last ∙ sym (fold_more d.next d.start list n 0 inside);
         costs = sym (ap (cost_of d) grown ∙ cost_append d front (a ∷ []) ∙ omega (arith, ran.costs));
         low = omega (arith, ran.low);
       }

@@ -1,5 +1,5 @@
 -- What runs is an action, and lists of actions run one after another.
-use Rattle.std.proofs.Common.{◌≡◌, ℕ, ◌+◌, ◌<◌, true, List, [], ◌∷◌, ◌++◌, sym, refl, ◌∙◌, ⊎_elim, arith}
+use Rattle.std.proofs.Common.{◌≡◌, ℕ, ◌+◌, ◌<◌, true, List, [], ◌∷◌, ◌++◌, sym, ◌∙◌, ⊎_elim, arith}
 use Rattle.std.proofs.lemmas.Bool.{cases_lt, true≢false}
 use Rattle.domain.specs.Meaning.{Meaning, Limits}
 use Rattle.plans.specs.Plans.{after, RunsAll, cost_of}
@@ -7,10 +7,6 @@ use Rattle.plans.specs.Plans.{after, RunsAll, cost_of}
 module _ (m : Meaning) where
   pub is_action : Limits m → (s a : ℕ) → m.runs s a ≡ true → a < m.actions
   is_action limits s a r = ⊎_elim (λ h. h) (λ h. absurd (true≢false (sym r ∙ limits.runs_no_action s a h))) (cases_lt a m.actions)
-
-  pub after_append : (p q : List ℕ) (s : ℕ) → after m s (p ++ q) ≡ after m (after m s p) q
-  after_append [] q s = refl
-  after_append (a ∷ p) q s = after_append p q (m.next s a)
 
   pub runs_append : (p q : List ℕ) (s : ℕ) → RunsAll m s p → RunsAll m (after m s p) q → RunsAll m s (p ++ q)
   runs_append [] q s r t = t

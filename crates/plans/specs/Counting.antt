@@ -1,5 +1,6 @@
 -- How a log is followed: which actions it lets run, and how the count of its carried entries grows.
-use Rattle.std.specs.Prelude.{ℕ, ◌+◌, Bool, if◌then◌else◌, not, ◌&&◌, ◌||◌, List, [], ◌∷◌, length, ◌==◌, nat_lt, slice_index}
+use Rattle.std.specs.Prelude.{ℕ, ◌+◌, Bool, if◌then◌else◌, not, ◌&&◌, ◌||◌, List, length, ◌==◌, nat_lt, slice_index}
+use Rattle.std.specs.List.{fold}
 use Rattle.plans.specs.Logs.{occurs}
 
 -- an action that is marked runs only if it is in the log
@@ -12,5 +13,4 @@ advance log k a = if nat_lt k (length log) && slice_index log k == a then k + 1 
 
 -- the count after a list of actions
 abbrev pub advance_all : List ℕ → ℕ → List ℕ → ℕ
-advance_all log k [] = k
-advance_all log k (a ∷ rest) = advance_all log (advance log k a) rest
+advance_all log k list = fold (advance log) k list

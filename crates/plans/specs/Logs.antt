@@ -1,5 +1,6 @@
 -- Logs of actions, and the plans that account for them.
-use Rattle.std.specs.Prelude.{◌≡◌, ℕ, ◌<◌, Bool, true, false, ◌||◌, List, [], ◌∷◌, length, ◌==◌, slice_index}
+use Rattle.std.specs.Prelude.{◌≡◌, ℕ, ◌<◌, Bool, true, List, length, ◌==◌, slice_index}
+use Rattle.std.specs.List.{list_any}
 use Rattle.domain.specs.Meaning.{Meaning}
 use Rattle.plans.specs.Plans.{after, PlanFor, Cheapest}
 
@@ -12,8 +13,7 @@ pub record Carries (log plan : List ℕ) : Type 0 where
 
 -- the action is in the list
 abbrev pub occurs : ℕ → List ℕ → Bool
-occurs a [] = false
-occurs a (x ∷ xs) = x == a || occurs a xs
+occurs a list = list_any (λ x. x == a) list
 
 -- every marked action of the list is in the log
 abbrev pub Logged : Meaning → List ℕ → List ℕ → Type 0

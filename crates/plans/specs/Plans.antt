@@ -1,11 +1,11 @@
 -- Lists of actions and what they are worth. The definitions speak of a domain's meaning alone.
 use Rattle.std.specs.Prelude.{◌≡◌, ℕ, ◌+◌, ◌≤◌, true, List, [], ◌∷◌, Some, None, Option}
+use Rattle.std.specs.List.{fold}
 use Rattle.domain.specs.Meaning.{Meaning}
 
 -- the state that a list of actions leads to from s
 abbrev pub after : Meaning → ℕ → List ℕ → ℕ
-after d s [] = s
-after d s (a ∷ rest) = after d (d.next s a) rest
+after d s list = fold d.next s list
 
 -- the actions run one after another, each in the state that those before it lead to
 abbrev pub RunsAll : Meaning → ℕ → List ℕ → Type 0

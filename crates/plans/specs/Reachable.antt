@@ -1,5 +1,5 @@
 -- The states that can be reached from the start, and how many there are.
-use Rattle.std.specs.Prelude.{◌≡◌, ℕ, ◌<◌, ◌≤◌, List, length, ◌≢◌, slice_index, Contains}
+use Rattle.std.specs.Prelude.{◌≡◌, ℕ, ◌<◌, ◌≤◌, List, length, ◌≢◌, Contains, All, AllPairs}
 use Rattle.domain.specs.Meaning.{Meaning}
 use Rattle.plans.specs.Plans.{after, RunsAll}
 
@@ -17,8 +17,8 @@ pub record AtMost (d : Meaning) (n : ℕ) : Type 0 where
 pub record MoreThan (d : Meaning) (n : ℕ) : Type 0 where
   pub states : List ℕ
   pub many : n < length states
-  pub each : (i : ℕ) → i < length states → Reachable d (slice_index states i)
-  pub apart : (i j : ℕ) → i < j → j < length states → slice_index states i ≢ slice_index states j
+  pub each : All (Reachable d) states
+  pub apart : AllPairs (λ s t. s ≢ t) states
 
 -- of the two at most one holds, so what depends on the count can be said by the one or the other
 abbrev pub NeverBoth : Meaning → ℕ → Type 0
