@@ -7,6 +7,7 @@ ghost use Rattle.search.specs.Solved.{Solved, Exploring};
 
 use crate::entry::Entry;
 use crate::fault::SearchFault;
+use crate::least_costs::MOST_ROWS;
 use crate::reach::Progress;
 use crate::settle::{expand, take_next};
 use domain::Domain;
@@ -16,7 +17,7 @@ use table::row::{Node, Row};
 
 // The start alone, which waits.
 fn begin<D: Domain>(domain: &D, rows: &mut [Row], list: &mut [Entry]) -> Progress
-    requires { (1 ≤ length rows.old) × (length rows.old ≤ 4096) × (length rows.old ≤ length list.old) }
+    requires { (1 ≤ length rows.old) × (length rows.old ≤ MOST_ROWS) × (length rows.old ≤ length list.old) }
     ensures { Exploring (D.meaning domain.now) rows.new result.known list.new result.waiting }
 {
     clear(rows);
@@ -39,7 +40,7 @@ pub(crate) fn explore<D: Domain>(
     rows: &mut [Row],
     list: &mut [Entry],
 ) -> Result<usize, SearchFault>
-    requires { (1 ≤ length rows.old) × (length rows.old ≤ 4096) × (length rows.old ≤ length list.old) }
+    requires { (1 ≤ length rows.old) × (length rows.old ≤ MOST_ROWS) × (length rows.old ≤ length list.old) }
     ensures { MatchResult result (λ n. (n ≤ length rows.old) × Solved (D.meaning domain.now) (node rows.new) n) (λ fault. (fault ≡ Rows) × MoreThan (D.meaning domain.now) (length rows.old)) }
 {
     let mut progress = begin(domain, rows, list);

@@ -7,7 +7,7 @@ use domain::fault::Numbered;
 pub enum SearchFault {
     // the domain has no goal of that number
     Goal,
-    // the table has no row or more than 4096, or the waiting list or the plan place is shorter
+    // the table has no row or more than MOST_ROWS, or the waiting list or the plan place is shorter
     Tables,
     // more states can be reached than there are rows
     Rows,

@@ -12,11 +12,14 @@ use crate::plan::write_plan;
 use domain::Domain;
 use table::row::Row;
 
-// Whether there are 1 to 4096 rows, and no fewer places to wait in and for the plan.
+// The most rows that a search works with: with no more, every cost stays below 2^28.
+pub const MOST_ROWS: usize = 4096;
+
+// Whether there are 1 to MOST_ROWS rows, and no fewer places to wait in and for the plan.
 fn suited(rows: usize, waiting: usize, places: usize) -> bool
     ensures { IsTrue result ↔ Suited (record { rows = rows; waiting = waiting; places = places }) }
 {
-    1 <= rows && rows <= 4096 && rows <= waiting && rows <= places
+    1 <= rows && rows <= MOST_ROWS && rows <= waiting && rows <= places
 }
 
 // The costs and the plan from a finished table.

@@ -1,5 +1,5 @@
 // One state is settled: it is taken from the waiting list, and what its actions lead to is offered to the table.
-ghost use Rattle.std.specs.Prelude.{◌≡◌, ℕ, ◌+◌, ◌<◌, ◌≤◌, true, List, length, take, MatchOption, MatchResult};
+ghost use Rattle.std.specs.Prelude.{◌≡◌, ℕ, ◌+◌, ◌*◌, ◌<◌, ◌≤◌, true, List, length, take, MatchOption, MatchResult};
 ghost use Rattle.domain.specs.Meaning.{Meaning};
 ghost use Rattle.plans.specs.Reachable.{MoreThan};
 ghost use Rattle.table.specs.declared.row.Row.{Row};
@@ -9,6 +9,7 @@ ghost use Rattle.search.specs.Searching.{Searching, Waiting, Settled, Expanded};
 
 use crate::entry::Entry;
 use crate::fault::SearchFault;
+use crate::least_costs::MOST_ROWS;
 use crate::reach::{Progress, reach};
 use domain::Domain;
 use heap::take_least;
@@ -30,7 +31,7 @@ pub(crate) fn take_next(
     Some(entry.row)
 }
 
-// Offers what one action leads to from the settled row, which has the node `here`; no way costs more than 60000 for each of 4096 steps. It is refused where that is new and the table is full.
+// Offers what one action leads to from the settled row, which has the node `here`; no way costs more than 60000 for each of MOST_ROWS steps. It is refused where that is new and the table is full.
 fn offer<D: Domain>(
     domain: &D,
     rows: &mut [Row],
@@ -40,7 +41,7 @@ fn offer<D: Domain>(
     here: &Node,
     action: u8,
 ) -> Result<(), SearchFault>
-    requires { (progress.old.known ≤ length rows.old) × (here.now.cost ≤ 245760000) × (here.now.steps < 4096) }
+    requires { (progress.old.known ≤ length rows.old) × (here.now.cost ≤ 60000 * MOST_ROWS) × (here.now.steps < MOST_ROWS) }
     ensures { (before : List Row) (n w : ℕ) → row < n → (node before row).settled ≡ true → here.now ≡ node before row → Expanded (D.meaning domain.now) before n w row action rows.old progress.old.known list.old progress.old.waiting → MatchResult result (λ done. Expanded (D.meaning domain.now) before n w row (action + 1) rows.new progress.new.known list.new progress.new.waiting) (λ fault. (fault ≡ Rows) × MoreThan (D.meaning domain.now) (length before)) }
 {
     let state = domain.next(here.state, action);
