@@ -6,21 +6,17 @@ use domain::fault::Numbered;
 #[derive(Clone, Copy, PartialEq, Eq, Debug)]
 pub enum SearchFault {
     // the domain has no goal of that number
-    Goal,
+    Goal = 15,
     // the table has no row or more than MOST_ROWS, or the waiting list or the plan place is shorter
-    Tables,
+    Tables = 16,
     // more states can be reached than there are rows
-    Rows,
+    Rows = 17,
 }
 
 impl Numbered for SearchFault {
     ghost numbered = { search_number };
 
     fn number(self) -> u8 {
-        match self {
-            SearchFault::Goal => 15,
-            SearchFault::Tables => 16,
-            SearchFault::Rows => 17,
-        }
+        self as u8
     }
 }
