@@ -2,5 +2,4 @@
 #![tactic(auto)]
 
 pub mod fault;
-pub mod searching;
 pub mod tables;
