@@ -1,6 +1,5 @@
 -- From the start to the finished table.
-use Rattle.std.proofs.Common.{◌≡◌, ℕ, ◌-◌, ◌*◌, ◌<◌, ◌≤◌, true, false, List, length, take, sym, ap, ◌∙◌, subst, inl, ⊎_elim, arith}
-use Rattle.std.proofs.ByRecursion.{All-from_get_or}
+use Rattle.std.proofs.Common.{◌≡◌, ℕ, ◌-◌, ◌*◌, ◌<◌, ◌≤◌, true, false, List, length, take, sym, refl, ap, ◌∙◌, subst, inl, ⊎_elim, arith}
 use Rattle.std.proofs.lemmas.List.{length-take-le}
 use Rattle.std.proofs.lemmas.Bool.{cases_Bool, cases_eq, true≢false}
 use Rattle.domain.specs.Meaning.{Meaning}
@@ -13,7 +12,8 @@ use Rattle.table.specs.Index.{Indexed, Added}
 use Rattle.table.specs.Rows.{node}
 use Rattle.search.specs.declared.entry.Entry.{Entry}
 use Rattle.search.specs.Entries.{entry_of, ordered, order, noted, apart, Kept}
-use Rattle.search.specs.Searching.{Sound, Waits, Waiting, Searching, as_settled, Settled, Expanded}
+use Rattle.search.specs.declared.progress.Progress.{Progress}
+use Rattle.search.specs.Searching.{Stage, stage_of, settled_count, Sound, Waiting, Searching, as_settled, Settled, SettledRow, Expanded}
 use Rattle.search.specs.Solved.{Solved, Exploring}
 use Rattle.search.specs.Ways.{Begins, Way, KnownAt, Closed}
 use Rattle.search.proofs.Nodes.{closed_over}
@@ -23,11 +23,14 @@ use Rattle.search.proofs.WaitingLists.{waiting_pushed}
 -- nothing waits in a table that knows no row
 none_waits : (rows : List Row) (xs : List Entry) → length xs ≡ 0 → Waiting rows 0 xs
 none_waits rows xs e = record {
-  each = All-from_get_or (Waits (node rows) 0) xs (record { cost = 0; state = 0; row = 0 }) (λ i h. absurd (omega arith));
+  each = λ k d h. absurd (omega arith);
   all = λ i h s. absurd (omega arith);
   tracked = none_tracked noted apart rows xs e;
   ordered = none_ordered order xs e;
 }
+
+abbrev first_progress : Progress
+first_progress = record { known = 1; waiting = 1 }
 
 -- The start alone.
 module _ (m : Meaning) (rows rows' rows'' : List Row) (list list' : List Entry) (w : ℕ) (v : Node) (x : Entry) (is : x ≡ entry_of v 0) (begins : Begins m v) (unsettled : v.settled ≡ false) (small : length rows ≤ 4096) (long : length rows ≤ length list) (indexed : Indexed rows 0) (added : Added rows 0 v rows') (kept : Kept rows' rows'') (pushed_x : Pushed ordered 0 x w list list') (tracks_x : TracksPushed noted apart 0 x w list list' rows' rows'') where
@@ -43,7 +46,7 @@ module _ (m : Meaning) (rows rows' rows'' : List Row) (list list' : List Entry) 
   only : (P : Node → Type 0) → P v → (i : ℕ) → i < 1 → P (node rows'' i)
   only P p i h = let zero : i ≡ 0 = omega arith in subst P (sym (ap (node rows'') zero ∙ first)) p
 
-  begun_sound : Sound m (node rows'') 1 1 0
+  begun_sound : Sound m (node rows'') first_progress 0
   begun_sound = record {
     few = omega arith;
     one_each = λ i j h k e. omega arith;
@@ -56,7 +59,7 @@ module _ (m : Meaning) (rows rows' rows'' : List Row) (list list' : List Entry) 
     above = only (λ x. x.settled ≡ false → 0 ≤ x.cost) (λ e. omega arith);
   }
 
-  begun : Searching m rows'' 1 list' 1 0
+  begun : Searching m (stage_of rows'' list' first_progress) 0
   begun = record {
     small = omega (arith, small, kept.long, added.long);
     long = omega (arith, long, kept.long, added.long, pushed.long);
@@ -65,43 +68,55 @@ module _ (m : Meaning) (rows rows' rows'' : List Row) (list list' : List Entry) 
     waiting = subst (λ k. Waiting rows'' 1 (take k list')) pushed.more (waiting_pushed rows rows' rows'' 0 v (take 0 list) (take w list') added unsettled kept (none_waits rows (take 0 list) (length-take-le 0 list (omega arith))) pushed.entries (pushed.ordered order) tracks);
   }
 
-  pub exploring_begins : Exploring m rows'' 1 list' 1
+  pub exploring_begins : Exploring m (stage_of rows'' list' first_progress)
   exploring_begins = record { level = 0; searching = begun; closed = λ i h settled. absurd (omega (arith, begun_sound.shorter i h settled)) }
 
 -- One state more is settled.
-module _ (m : Meaning) (rows rows' rows'' : List Row) (n w i w' n'' w'' : ℕ) (list list' list'' : List Entry) (so : Exploring m rows n list w) (settled : Settled m rows n w i rows' list' w') (expanded : Expanded m rows' n w' i m.actions rows'' n'' list'' w'') where
-  keeps : (k : ℕ) → ((node rows' k).state ≡ (node rows k).state) × ((node rows' k).cost ≡ (node rows k).cost)
+module _ {m : Meaning} {before taken after : Stage} {i : ℕ} (so : Exploring m before) (settled : Settled m before i taken) (expanded : Expanded m taken i m.actions after) where
+  keeps : (k : ℕ) → ((node taken.rows k).state ≡ (node before.rows k).state) × ((node taken.rows k).cost ≡ (node before.rows k).cost)
   keeps k = ⊎_elim
       (λ e.
-      let now : node rows' k ≡ as_settled (node rows k) = ap (node rows') e ∙ settled.here ∙ ap (λ j. as_settled (node rows j)) (sym e) in
+      let now : node taken.rows k ≡ as_settled (node before.rows k) = ap (node taken.rows) e ∙ settled.here ∙ ap (λ j. as_settled (node before.rows j)) (sym e) in
       (ap (λ x. x.state) now, ap (λ x. x.cost) now))
       (λ u. (ap (λ x. x.state) (settled.others k u), ap (λ x. x.cost) (settled.others k u)))
       (cases_eq k i)
 
-  known_kept : (s c : ℕ) → KnownAt (node rows) n s c → KnownAt (node rows') n s c
-  known_kept s c k = (k.0, (k.1.0, ((keeps k.0).0 ∙ k.1.1.0, omega (arith, (keeps k.0).1, k.1.1.1))))
+  known_kept : (s c : ℕ) → KnownAt (node before.rows) before.progress.known s c → KnownAt (node taken.rows) taken.progress.known s c
+  known_kept s c k = (k.0, (omega (arith, k.1.0, settled.same_known), ((keeps k.0).0 ∙ k.1.1.0, omega (arith, (keeps k.0).1, k.1.1.1))))
 
-  closed_more : (k : ℕ) → k < n'' → (node rows'' k).settled ≡ true → Closed m (node rows'') n'' m.actions (node rows'' k)
+  closed_more : (k : ℕ) → k < after.progress.known → (node after.rows k).settled ≡ true → Closed m (node after.rows) after.progress.known m.actions (node after.rows k)
   closed_more k h e =
+      let Done : Node → Type 0 = Closed m (node after.rows) after.progress.known m.actions in
       let was = expanded.grew.none_settled k h e in
-      let same : node rows'' k ≡ node rows' k = expanded.grew.settled k was.0 was.1 in
-      subst (Closed m (node rows'') n'' m.actions) (sym same) (⊎_elim
-      (λ at_i. subst (λ j. Closed m (node rows'') n'' m.actions (node rows' j)) (sym at_i) expanded.closed)
+      let same : node after.rows k ≡ node taken.rows k = expanded.grew.settled k was.0 was.1 in
+      subst Done (sym same) (⊎_elim
+      (λ at_i. subst (λ j. Done (node taken.rows j)) (sym at_i) expanded.closed)
       (λ u.
-      let before : node rows' k ≡ node rows k = settled.others k u in
-      let closed : Closed m (node rows) n m.actions (node rows k) = so.closed k was.0 (sym (ap (λ x. x.settled) before) ∙ was.1) in
-      subst (Closed m (node rows'') n'' m.actions) (sym before) (closed_over m (node rows') (node rows'') n w' n'' w'' expanded.grew m.actions (node rows k) (λ a l r. known_kept _ _ (closed a l r))))
+      let stayed : node taken.rows k ≡ node before.rows k = settled.others k u in
+      let closed = so.closed k (omega (arith, was.0, settled.same_known)) (sym (ap (λ x. x.settled) stayed) ∙ was.1) in
+      subst Done (sym stayed) (closed_over expanded.grew m m.actions (node before.rows k) (λ a l r. known_kept _ _ (closed a l r))))
       (cases_eq k i))
 
-  pub exploring_on : Exploring m rows'' n'' list'' w''
+  pub exploring_on : Exploring m after
   exploring_on = record { level = _; searching = expanded.searching; closed = closed_more }
 
+  -- fewer rows are left to settle
+  pub left_falls : (size : ℕ) → size ≡ length before.rows → size - settled_count after.progress < size - settled_count before.progress
+  left_falls size e = omega (arith, e, so.searching.sound.few, so.searching.indexed.fits, settled.fewer, settled.same_known, expanded.grew.same_settled)
+
+-- what was taken can be expanded
+pub next_row : {m : Meaning} {before taken : Stage} {i : ℕ} → Settled m before i taken → SettledRow taken i (node taken.rows i)
+next_row s = record { row = omega (arith, s.row, s.same_known); settled = ap (λ v. v.settled) s.here; here = refl }
+
+pub next_searching : {m : Meaning} {before taken : Stage} {i : ℕ} → Settled m before i taken → Searching m taken (node taken.rows i).cost
+next_searching {m} {before} {taken} s = subst (Searching m taken) (sym (ap (λ v. v.cost) s.here)) s.searching
+
 -- Nothing waits any more.
-pub solved : (m : Meaning) (rows : List Row) (n : ℕ) (list : List Entry) (w : ℕ) → w ≡ 0 → Exploring m rows n list w → Solved m (node rows) n
-solved m rows n list w e so =
+pub solved : {m : Meaning} {s : Stage} → s.progress.waiting ≡ 0 → Exploring m s → Solved m (node s.rows) s.progress.known
+solved {m} {s} e so =
     let sound = so.searching.sound in
-    let none : length (take w list) ≡ 0 = length-take-le w list (omega arith) ∙ e in
-    let all : (i : ℕ) → i < n → (node rows i).settled ≡ true = λ i h. ⊎_elim (λ t. t) (λ f. absurd (omega (arith, none, (so.searching.waiting.all i h f).1.0.1))) (cases_Bool (node rows i).settled) in
+    let none : length (take s.progress.waiting s.list) ≡ 0 = length-take-le s.progress.waiting s.list (omega arith) ∙ e in
+    let all : (i : ℕ) → i < s.progress.known → (node s.rows i).settled ≡ true = λ i h. ⊎_elim (λ t. t) (λ f. absurd (omega (arith, none, (so.searching.waiting.all i h f).1.0.1))) (cases_Bool (node s.rows i).settled) in
     record {
       one_each = sound.one_each;
       start = sound.start;
@@ -109,12 +124,3 @@ solved m rows n list w e so =
       short = λ i h. omega (arith, sound.shorter i h (all i h));
       closed = λ i h. so.closed i h (all i h);
     }
-
--- what was taken can be expanded
-pub next_expands : (m : Meaning) (rows rows' : List Row) (n w i w' k : ℕ) (list' : List Entry) → k ≡ n → Settled m rows n w i rows' list' w' → (i < k) × ((node rows' i).settled ≡ true) × Searching m rows' k list' w' (node rows' i).cost
-next_expands m rows rows' n w i w' k list' same s =
-    (omega (arith, s.row), ap (λ v. v.settled) s.here, subst (λ j. Searching m rows' j list' w' (node rows' i).cost) (sym same) (subst (λ c. Searching m rows' n list' w' c) (sym (ap (λ v. v.cost) s.here)) s.searching))
-
--- fewer rows are left to settle
-pub left_falls : (m : Meaning) (rows rows' rows'' : List Row) (n w i w' n'' w'' size : ℕ) (list list' list'' : List Entry) → size ≡ length rows → Exploring m rows n list w → Settled m rows n w i rows' list' w' → Expanded m rows' n w' i m.actions rows'' n'' list'' w'' → size - (n'' - w'') < size - (n - w)
-left_falls m rows rows' rows'' n w i w' n'' w'' size list list' list'' e so settled expanded = omega (arith, e, so.searching.sound.few, so.searching.indexed.fits, settled.fewer, expanded.grew.same_settled)

@@ -11,65 +11,81 @@ use Rattle.table.specs.Rows.{at, node}
 use Rattle.table.proofs.Chains.{indexed_over, put_indexed}
 use Rattle.search.specs.declared.entry.Entry.{Entry}
 use Rattle.search.specs.Entries.{entry_of, ordered, order, noted, apart, Kept}
-use Rattle.search.specs.Searching.{Sound, Waiting, Grew, Searching, Offered, Reached}
+use Rattle.search.specs.Searching.{Stage, stage_of, Sound, Waiting, Grew, Offerable, Reached, Dearer}
 use Rattle.search.specs.Ways.{KnownAt}
-use Rattle.search.proofs.Nodes.{grew_more, sound_more, waits_still, grew_cheaper, sound_cheaper}
+use Rattle.search.proofs.Nodes.{one_more, grew_more, sound_more, waits_still, grew_cheaper, sound_cheaper}
 use Rattle.search.proofs.WaitingLists.{nodes_kept, waiting_pushed, place_within, place_cost, waiting_lowered, cheaper_low}
 
 pub kept_indexed : (rows rows' : List Row) (n : ℕ) → Kept rows rows' → Indexed rows n → Indexed rows' n
 kept_indexed rows rows' n kept = indexed_over rows rows' n kept.long (λ k. ap (λ v. v.state) (kept.nodes k)) kept.links
 
 -- the entry of a row that waits stands at the place that the row notes, and a cheaper one is not greater
-pub is_lower : (m : Meaning) (rows : List Row) (n : ℕ) (list : List Entry) (w level i : ℕ) (v : Node) → Searching m rows n list w level → Offered m (node rows) n w level v → i < n → v.cost < (node rows i).cost → Lowers order w (at rows i).place (entry_of v i) list
-is_lower m rows n list w level i v s offered low cheaper =
-    let waits = waits_still m (node rows) n w level i v low offered cheaper s.sound in
-    let fits = s.indexed.fits in
-    let size : length (take w list) ≡ w = length-take-le w list (omega (arith, s.sound.few, s.long)) in
-    let place = (at rows i).place in
-    let within : place < w = omega (arith, place_within rows n (take w list) fits s.waiting i low waits) in
+pub is_lower : {m : Meaning} {s : Stage} {level : ℕ} {v : Node} → Offerable m s level v → (i : ℕ) → Dearer s i v → Lowers order s.progress.waiting (at s.rows i).place (entry_of v i) s.list
+is_lower {m} {s} {level} {v} so i dearer =
+    let now = so.searching in
+    let n = s.progress.known in
+    let w = s.progress.waiting in
+    let waits = waits_still so.offered now.sound i dearer.row dearer.cheaper in
+    let size : length (take w s.list) ≡ w = length-take-le w s.list (omega (arith, now.sound.few, now.indexed.fits, now.long)) in
+    let place = (at s.rows i).place in
+    let within : place < w = omega (arith, size, place_within s.rows n (take w s.list) now.indexed.fits now.waiting i dearer.row waits) in
     record {
-      whole = omega (arith, s.sound.few, s.long);
+      whole = omega (arith, now.sound.few, now.indexed.fits, now.long);
       within = within;
-      low = λ d. cheaper_low (entry_of v i) (get_or list place d) (omega (arith, ap (λ (e : Entry). e.cost) (get_or-take w list place d within), place_cost rows n (take w list) fits s.waiting i low waits d));
+      low = λ d. cheaper_low (entry_of v i) (get_or s.list place d) (omega (arith, dearer.cheaper, ap (λ (e : Entry). e.cost) (get_or-take w s.list place d within), place_cost s.rows n (take w s.list) now.indexed.fits now.waiting i dearer.row waits d));
     }
 
-module _ (m : Meaning) (level : ℕ) (rows rows' rows'' : List Row) (n : ℕ) (list list' : List Entry) (w : ℕ) (v : Node) (kept : Kept rows' rows'') (s : Searching m rows n list w level) (offered : Offered m (node rows) n w level v) where
-  pub discovered : (n' w' : ℕ) (x : Entry) → n' ≡ n + 1 → x ≡ entry_of v n → Found rows n v.state None → Added rows n v rows' → Pushed ordered w x w' list list' → TracksPushed noted apart w x w' list list' rows' rows'' → Reached m level rows n w v rows'' n' list' w'
+module _ {m : Meaning} {s : Stage} {level : ℕ} {v : Node} (so : Offerable m s level v) (rows' rows'' : List Row) (list' : List Entry) (kept : Kept rows' rows'') where
+  abbrev rows : List Row
+  rows = s.rows
+
+  abbrev n : ℕ
+  n = s.progress.known
+
+  abbrev w : ℕ
+  w = s.progress.waiting
+
+  pub discovered : (n' w' : ℕ) (x : Entry) → n' ≡ n + 1 → x ≡ entry_of v n → Found rows n v.state None → Added rows n v rows' → Pushed ordered w x w' s.list list' → TracksPushed noted apart w x w' s.list list' rows' rows'' → Reached m s level v (stage_of rows'' list' (record { known = n'; waiting = w' }))
   discovered n' w' x more is absent added pushed_x tracks_x =
-      let pushed = subst (λ y. Pushed ordered w y w' list list') is pushed_x in
-      let tracks = subst (λ y. TracksPushed noted apart w y w' list list' rows' rows'') is tracks_x in
-      let grew : Grew (node rows) n w (node rows'') (n + 1) (w + 1) = subst (λ f. Grew (node rows) n w f (n + 1) (w + 1)) (nodes_kept rows' rows'' kept) (grew_more (node rows) (node rows') n v added.here added.others m n w level refl offered absent s.sound) in
-      let sound : Sound m (node rows'') (n + 1) (w + 1) level = subst (λ f. Sound m f (n + 1) (w + 1) level) (nodes_kept rows' rows'' kept) (sound_more (node rows) (node rows') n v added.here added.others m n w level refl offered absent s.sound) in
+      let now = so.searching in
+      let p = one_more s.progress in
+      let pushed = subst (λ y. Pushed ordered w y w' s.list list') is pushed_x in
+      let tracks = subst (λ y. TracksPushed noted apart w y w' s.list list' rows' rows'') is tracks_x in
+      let grew : Grew (node rows) s.progress (node rows'') p = subst (λ f. Grew (node rows) s.progress f p) (nodes_kept rows' rows'' kept) (grew_more (node rows) (node rows') n v added.here added.others so.offered now.sound refl absent) in
+      let sound : Sound m (node rows'') p level = subst (λ f. Sound m f p level) (nodes_kept rows' rows'' kept) (sound_more (node rows) (node rows') n v added.here added.others so.offered now.sound refl absent) in
       let known : KnownAt (node rows'') (n + 1) v.state v.cost = subst (λ f. KnownAt f (n + 1) v.state v.cost) (nodes_kept rows' rows'' kept) (n, (omega arith, (ap (λ x. x.state) added.here, omega (arith, ap (λ x. x.cost) added.here)))) in
-      let all : Reached m level rows n w v rows'' (n + 1) list' (w + 1) = record {
+      let all : Reached m s level v (stage_of rows'' list' p) = record {
         searching = record {
-          small = omega (arith, s.small, kept.long, added.long);
-          long = omega (arith, s.long, kept.long, added.long, pushed.long);
-          indexed = kept_indexed rows' rows'' (n + 1) kept (added.indexed s.indexed);
+          small = omega (arith, now.small, kept.long, added.long);
+          long = omega (arith, now.long, kept.long, added.long, pushed.long);
+          indexed = kept_indexed rows' rows'' (n + 1) kept (added.indexed now.indexed);
           sound = sound;
-          waiting = subst (λ k. Waiting rows'' (n + 1) (take k list')) pushed.more (waiting_pushed rows rows' rows'' n v (take w list) (take w' list') added offered.unsettled kept s.waiting pushed.entries (pushed.ordered order) tracks);
+          waiting = subst (λ k. Waiting rows'' (n + 1) (take k list')) pushed.more (waiting_pushed rows rows' rows'' n v (take w s.list) (take w' list') added so.offered.unsettled kept now.waiting pushed.entries (pushed.ordered order) tracks);
         };
         grew = grew;
         known = known;
         same_length = kept.long ∙ added.long;
       } in
-      subst (λ k. Reached m level rows n w v rows'' k list' w') (sym more) (subst (λ k. Reached m level rows n w v rows'' (n + 1) list' k) (sym pushed.more) all)
+      let P : ℕ → ℕ → Type 0 = λ j k. Reached m s level v (stage_of rows'' list' (record { known = j; waiting = k })) in
+      subst (λ j. P j w') (sym more) (subst (P (n + 1)) (sym pushed.more) all)
 
-  pub improved : (i : ℕ) (x : Entry) → i < n → x ≡ entry_of v i → v.state ≡ (node rows i).state → v.cost < (node rows i).cost → Put rows i v rows' → Lowered ordered w (at rows i).place x list list' → TracksLowered noted apart w (at rows i).place x list list' rows' rows'' → Reached m level rows n w v rows'' n list' w
-  improved i x low is same cheaper put lowered_x tracks_x =
-      let lowered = subst (λ y. Lowered ordered w (at rows i).place y list list') is lowered_x in
-      let tracks = subst (λ y. TracksLowered noted apart w (at rows i).place y list list' rows' rows'') is tracks_x in
-      let here : node rows' i ≡ v = put.here (omega (arith, s.indexed.fits)) in
+  pub improved : (i : ℕ) (x : Entry) → Dearer s i v → x ≡ entry_of v i → Put rows i v rows' → Lowered ordered w (at rows i).place x s.list list' → TracksLowered noted apart w (at rows i).place x s.list list' rows' rows'' → Reached m s level v (stage_of rows'' list' s.progress)
+  improved i x dearer is put lowered_x tracks_x =
+      let now = so.searching in
+      let lowered = subst (λ y. Lowered ordered w (at rows i).place y s.list list') is lowered_x in
+      let tracks = subst (λ y. TracksLowered noted apart w (at rows i).place y s.list list' rows' rows'') is tracks_x in
+      let here : node rows' i ≡ v = put.here (omega (arith, dearer.row, now.indexed.fits)) in
       let others : (k : ℕ) → (k ≡ i → ⊥) → node rows' k ≡ node rows k = λ k u. ap (λ r. r.node) (put.others k u) in
+      let waits = waits_still so.offered now.sound i dearer.row dearer.cheaper in
       record {
         searching = record {
-          small = omega (arith, s.small, kept.long, put.long);
-          long = omega (arith, s.long, kept.long, put.long, lowered.long);
-          indexed = kept_indexed rows' rows'' n kept (put_indexed rows rows' i v put n (omega (arith, low, s.indexed.fits)) same s.indexed);
-          sound = subst (λ f. Sound m f n w level) (nodes_kept rows' rows'' kept) (sound_cheaper (node rows) (node rows') i v here others m n w level low offered same cheaper s.sound);
-          waiting = waiting_lowered rows rows' rows'' n i v (take w list) (take w list') s.indexed.fits low (waits_still m (node rows) n w level i v low offered cheaper s.sound) put offered.unsettled kept s.waiting lowered.entries (lowered.ordered order) tracks;
+          small = omega (arith, now.small, kept.long, put.long);
+          long = omega (arith, now.long, kept.long, put.long, lowered.long);
+          indexed = kept_indexed rows' rows'' n kept (put_indexed rows rows' i v put n (omega (arith, dearer.row, now.indexed.fits)) dearer.same now.indexed);
+          sound = subst (λ f. Sound m f s.progress level) (nodes_kept rows' rows'' kept) (sound_cheaper (node rows) (node rows') i v here others so.offered now.sound dearer.row dearer.same dearer.cheaper);
+          waiting = waiting_lowered rows rows' rows'' n i v (take w s.list) (take w list') now.indexed.fits dearer.row waits put so.offered.unsettled kept now.waiting lowered.entries (lowered.ordered order) tracks;
         };
-        grew = subst (λ f. Grew (node rows) n w f n w) (nodes_kept rows' rows'' kept) (grew_cheaper (node rows) (node rows') i v here others m n w level low offered same cheaper s.sound);
-        known = subst (λ f. KnownAt f n v.state v.cost) (nodes_kept rows' rows'' kept) (i, (low, (ap (λ x. x.state) here, omega (arith, ap (λ x. x.cost) here))));
+        grew = subst (λ f. Grew (node rows) s.progress f s.progress) (nodes_kept rows' rows'' kept) (grew_cheaper (node rows) (node rows') i v here others so.offered now.sound dearer.row dearer.same dearer.cheaper);
+        known = subst (λ f. KnownAt f n v.state v.cost) (nodes_kept rows' rows'' kept) (i, (dearer.row, (ap (λ x. x.state) here, omega (arith, ap (λ x. x.cost) here))));
         same_length = kept.long ∙ put.long;
       }

@@ -2,10 +2,10 @@
 use Rattle.std.proofs.Common.{◌≡◌, ℕ, suc, ◌+◌, ◌<◌, ◌≤◌, Bool, true, false, cond, eqb, ltb, List, [], ◌∷◌, length, get_or, set, Ordering, Less, Equal, Greater, sym, refl, ap, ◌∙◌, subst, ⊎_elim, arith}
 use Rattle.std.specs.Ordering.{is_lt, is_gt, ordering_then}
 use Rattle.std.specs.List.Sorted.{IsPermutation}
-use Rattle.std.specs.List.{ContainsAt, AllByRecursion}
-use Rattle.std.proofs.ByRecursion.{All-weaker, All-get_or, All-from_get_or, has_append_right, all_shuffled, has_shuffled}
-use Rattle.std.proofs.lemmas.List.{length-set, get_or-set_same, get_or-set_other}
-use Rattle.std.proofs.lemmas.List.Elements.{Contains-from_at, at_from_Contains}
+use Rattle.std.specs.List.{All, Contains}
+use Rattle.std.proofs.lemmas.List.{length-set, get_or-set_same, get_or-set_other, get_or_read}
+use Rattle.std.proofs.lemmas.List.Elements.{All-cons, All-weaker, Contains-append_right}
+use Rattle.std.proofs.lemmas.List.Sorted.{All-permutation, Contains-permutation}
 use Rattle.std.proofs.lemmas.Map.Made.{Contains-tail}
 use Rattle.std.proofs.lemmas.Bool.{cases_eq, lt-ltb, ltb-false, true≢false}
 use Rattle.heap.specs.Order.{HeapOrder, Least}
@@ -20,9 +20,6 @@ use Rattle.search.specs.declared.entry.Entry.{Entry}
 use Rattle.search.specs.Entries.{entry_of, ordered, order, noted, apart, Kept}
 use Rattle.search.specs.Searching.{Waits, AllWait, Waiting}
 
-no_entry : Entry
-no_entry = record { cost = 0; state = 0; row = 0 }
-
 waits_over : (f g : ℕ → Node) (n n' : ℕ) → n ≤ n' → (x : Entry) → g x.row ≡ f x.row → Waits f n x → Waits g n' x
 waits_over f g n n' h x same y = record {
   row = omega (arith, y.row);
@@ -35,7 +32,7 @@ waits_own : (f : ℕ → Node) (n i : ℕ) (v : Node) → i < n → f i ≡ v �
 waits_own f n i v h here e = record { row = h; unsettled = ap (λ x. x.settled) here ∙ e; cost = sym (ap (λ x. x.cost) here); state = sym (ap (λ x. x.state) here) }
 
 all_wait_shuffled : (f : ℕ → Node) (n : ℕ) (xs ys : List Entry) → IsPermutation xs ys → AllWait f n xs → AllWait f n ys
-all_wait_shuffled f n xs ys s all i h e = let x = all i h e in (x.0, (has_shuffled xs ys x.0 s x.1.0, x.1.1))
+all_wait_shuffled f n xs ys s all i h e = let x = all i h e in (x.0, (Contains-permutation xs ys x.0 s x.1.0, x.1.1))
 
 -- places that stay are noted as before
 noted_over : (rows rows' : List Row) (x : Entry) (k : ℕ) → length rows' ≡ length rows → ((i : ℕ) → (at rows' i).place ≡ (at rows i).place) → noted rows x k → noted rows' x k
@@ -45,10 +42,10 @@ pub nodes_kept : (rows rows' : List Row) → Kept rows rows' → node rows ≡ n
 nodes_kept rows rows' kept = λ i k. sym (kept.nodes k) i
 
 -- the rows after a heap function noted the places anew
-module _ (rows rows' : List Row) (n : ℕ) (xs ys : List Entry) (kept : Kept rows rows') (shuffled : IsPermutation xs ys) (each : AllByRecursion (Waits (node rows) n) xs) (all : AllWait (node rows) n xs) (tracked : Tracked noted apart rows' ys) (ordered : HeapOrder order ys) where
+module _ (rows rows' : List Row) (n : ℕ) (xs ys : List Entry) (kept : Kept rows rows') (shuffled : IsPermutation xs ys) (each : All (Waits (node rows) n) xs) (all : AllWait (node rows) n xs) (tracked : Tracked noted apart rows' ys) (ordered : HeapOrder order ys) where
   waiting_noted : Waiting rows' n ys
   waiting_noted = record {
-    each = subst (λ f. AllByRecursion (Waits f n) ys) (nodes_kept rows rows' kept) (all_shuffled (Waits (node rows) n) xs ys shuffled each);
+    each = subst (λ f. All (Waits f n) ys) (nodes_kept rows rows' kept) (All-permutation (Waits (node rows) n) xs ys shuffled each);
     all = subst (λ f. AllWait f n ys) (nodes_kept rows rows' kept) (all_wait_shuffled (node rows) n xs ys shuffled all);
     tracked = tracked;
     ordered = ordered;
@@ -56,19 +53,19 @@ module _ (rows rows' : List Row) (n : ℕ) (xs ys : List Entry) (kept : Kept row
 
 -- One row more, which waits.
 module _ (rows rows' rows'' : List Row) (n : ℕ) (v : Node) (xs ys : List Entry) (added : Added rows n v rows') (unsettled : v.settled ≡ false) (kept : Kept rows' rows'') (waiting : Waiting rows n xs) where
-  each_pushed : AllByRecursion (Waits (node rows') (n + 1)) (entry_of v n ∷ xs)
+  each_pushed : All (Waits (node rows') (n + 1)) (entry_of v n ∷ xs)
   each_pushed =
-      (waits_own (node rows') (n + 1) n v (omega arith) added.here unsettled, All-weaker (Waits (node rows) n) (Waits (node rows') (n + 1)) (λ x w. waits_over (node rows) (node rows') n (n + 1) (omega arith) x (added.others x.row (omega (arith, w.row))) w) xs waiting.each)
+      All-cons (Waits (node rows') (n + 1)) (entry_of v n) xs (waits_own (node rows') (n + 1) n v (omega arith) added.here unsettled) (All-weaker (Waits (node rows) n) (Waits (node rows') (n + 1)) (λ x w. waits_over (node rows) (node rows') n (n + 1) (omega arith) x (added.others x.row (omega (arith, w.row))) w) xs waiting.each)
 
   all_pushed : AllWait (node rows') (n + 1) (entry_of v n ∷ xs)
   all_pushed i h e =
       ⊎_elim
-      (λ same. (entry_of v n, ((0, omega arith, λ d. refl), sym same)))
-      (λ other. let x = waiting.all i (omega arith) (sym (ap (λ y. y.settled) (added.others i other)) ∙ e) in (x.0, (has_append_right (entry_of v n ∷ []) xs x.0 x.1.0, x.1.1)))
+      (λ same. (entry_of v n, ((0, omega arith, refl), sym same)))
+      (λ other. let x = waiting.all i (omega arith) (sym (ap (λ y. y.settled) (added.others i other)) ∙ e) in (x.0, (Contains-append_right (entry_of v n ∷ []) xs x.0 x.1.0, x.1.1)))
       (cases_eq i n)
 
   row_low : (k : ℕ) (d : Entry) → k < length xs → (get_or xs k d).row < n
-  row_low k d h = (All-get_or (Waits (node rows) n) xs k d h waiting.each).row
+  row_low k d h = (waiting.each k d h).row
 
   apart_pushed : Apart apart (entry_of v n ∷ xs)
   apart_pushed = apart_more apart (entry_of v n) xs waiting.tracked.0 (λ k d h. (λ e. omega (arith, row_low k d h), λ e. omega (arith, row_low k d h)))
@@ -81,24 +78,23 @@ module _ (rows rows' rows'' : List Row) (n : ℕ) (v : Node) (xs ys : List Entry
 
 -- Where the entry of a row stands.
 module _ (rows : List Row) (n : ℕ) (xs : List Entry) (fits : n ≤ length rows) (waiting : Waiting rows n xs) (i : ℕ) (low : i < n) (unsettled : (node rows i).settled ≡ false) where
-  own : (e : Entry) × (ContainsAt xs e × (e.row ≡ i))
+  own : (e : Entry) × (Contains xs e × (e.row ≡ i))
   own = waiting.all i low unsettled
 
+  own_row : (d : Entry) → (get_or xs own.1.0.0 d).row ≡ i
+  own_row d = ap (λ (y : Entry). y.row) (sym (get_or_read xs own.1.0.0 own.0 own.1.0.1 (sym own.1.0.2) d)) ∙ own.1.1
+
   place_is : (at rows i).place ≡ own.1.0.0
-  place_is =
-      let k = own.1.0.0 in
-      let e = own.0 in
-      let at_row : (get_or xs k no_entry).row ≡ i = ap (λ (y : Entry). y.row) (own.1.0.2 no_entry) ∙ own.1.1 in
-      ap (λ r. (at rows r).place) (sym at_row) ∙ waiting.tracked.1 k no_entry own.1.0.1 (omega (arith, at_row))
+  place_is = let e = own.0 in ap (λ r. (at rows r).place) (sym (own_row e)) ∙ waiting.tracked.1 own.1.0.0 e own.1.0.1 (omega (arith, own_row e))
 
   pub place_within : (at rows i).place < length xs
   place_within = omega (arith, place_is, own.1.0.1)
 
   pub place_row : (d : Entry) → (get_or xs (at rows i).place d).row ≡ i
-  place_row d = ap (λ k. (get_or xs k d).row) place_is ∙ ap (λ (y : Entry). y.row) (own.1.0.2 d) ∙ own.1.1
+  place_row d = ap (λ k. (get_or xs k d).row) place_is ∙ own_row d
 
   pub place_cost : (d : Entry) → (get_or xs (at rows i).place d).cost ≡ (node rows i).cost
-  place_cost d = (All-get_or (Waits (node rows) n) xs (at rows i).place d place_within waiting.each).cost ∙ ap (λ r. (node rows r).cost) (place_row d)
+  place_cost d = (waiting.each (at rows i).place d place_within).cost ∙ ap (λ r. (node rows r).cost) (place_row d)
 
 -- A row that waits gets another node of the same state, and its entry comes in the place of the old one.
 module _ (rows rows' rows'' : List Row) (n i : ℕ) (v : Node) (xs ys : List Entry) (fits : n ≤ length rows) (low : i < n) (waits : (node rows i).settled ≡ false) (put : Put rows i v rows') (unsettled : v.settled ≡ false) (kept : Kept rows' rows'') (waiting : Waiting rows n xs) where
@@ -126,28 +122,28 @@ module _ (rows rows' rows'' : List Row) (n i : ℕ) (v : Node) (xs ys : List Ent
   entry_here : (d : Entry) → get_or (set xs p (entry_of v i)) p d ≡ entry_of v i
   entry_here d = get_or-set_same xs p (entry_of v i) d within
 
-  each_lowered : AllByRecursion (Waits (node rows') n) (set xs p (entry_of v i))
-  each_lowered = All-from_get_or (Waits (node rows') n) (set xs p (entry_of v i)) no_entry (λ k h. ⊎_elim
-      (λ e. subst (Waits (node rows') n) (sym (ap (λ j. get_or (set xs p (entry_of v i)) j no_entry) e ∙ entry_here no_entry)) (waits_own (node rows') n i v low here unsettled))
+  each_lowered : All (Waits (node rows') n) (set xs p (entry_of v i))
+  each_lowered k d h = ⊎_elim
+      (λ e. subst (Waits (node rows') n) (sym (ap (λ j. get_or (set xs p (entry_of v i)) j d) e ∙ entry_here d)) (waits_own (node rows') n i v low here unsettled))
       (λ u.
       let l : k < length xs = omega (arith, length-set xs p (entry_of v i)) in
-      let x = get_or xs k no_entry in
-      subst (Waits (node rows') n) (sym (entry_other k no_entry u)) (waits_over (node rows) (node rows') n n (omega arith) x (node_other x.row (other_row k no_entry l u)) (All-get_or (Waits (node rows) n) xs k no_entry l waiting.each)))
-      (cases_eq k p))
+      let x = get_or xs k d in
+      subst (Waits (node rows') n) (sym (entry_other k d u)) (waits_over (node rows) (node rows') n n (omega arith) x (node_other x.row (other_row k d l u)) (waiting.each k d l)))
+      (cases_eq k p)
 
-  own_row : (get_or xs p no_entry).row ≡ i
+  own_row_here : (d : Entry) → (get_or xs p d).row ≡ i
   unfolding p
-  own_row = place_row rows n xs fits waiting i low waits no_entry
+  own_row_here d = place_row rows n xs fits waiting i low waits d
 
   all_lowered : AllWait (node rows') n (set xs p (entry_of v i))
   all_lowered j h e =
       ⊎_elim
-      (λ same. (entry_of v i, ((p, omega (arith, within, length-set xs p (entry_of v i)), entry_here), sym same)))
+      (λ same. (entry_of v i, ((p, omega (arith, within, length-set xs p (entry_of v i)), entry_here (entry_of v i)), sym same)))
       (λ other.
       let x = waiting.all j h (sym (ap (λ y. y.settled) (node_other j other)) ∙ e) in
       let k = x.1.0.0 in
-      let away : k ≡ p → ⊥ = λ at_p. other (sym (ap (λ (y : Entry). y.row) (sym (ap (λ q. get_or xs q no_entry) at_p) ∙ x.1.0.2 no_entry) ∙ x.1.1) ∙ own_row) in
-      (x.0, ((k, omega (arith, x.1.0.1, length-set xs p (entry_of v i)), λ d. entry_other k d away ∙ x.1.0.2 d), x.1.1)))
+      let away : k ≡ p → ⊥ = λ at_p. other (sym (ap (λ (y : Entry). y.row) (sym (ap (λ q. get_or xs q x.0) at_p) ∙ x.1.0.2) ∙ x.1.1) ∙ own_row_here x.0) in
+      (x.0, ((k, omega (arith, x.1.0.1, length-set xs p (entry_of v i)), entry_other k x.0 away ∙ x.1.0.2), x.1.1)))
       (cases_eq j i)
 
   apart_lowered : Apart apart (set xs p (entry_of v i))
@@ -162,8 +158,8 @@ module _ (rows rows' rows'' : List Row) (n i : ℕ) (v : Node) (xs ys : List Ent
 
 -- An entry is taken and its row is settled.
 module _ (rows rows' rows'' : List Row) (n : ℕ) (x : Entry) (v : Node) (xs ys : List Entry) (kept : Kept rows rows') (put : Put rows' x.row v rows'') (settled : v.settled ≡ true) (fits : n ≤ length rows) (shuffled : IsPermutation xs (x ∷ ys)) (waiting : Waiting rows n xs) where
-  each_both : AllByRecursion (Waits (node rows) n) (x ∷ ys)
-  each_both = all_shuffled (Waits (node rows) n) xs (x ∷ ys) shuffled waiting.each
+  each_both : All (Waits (node rows) n) (x ∷ ys)
+  each_both = All-permutation (Waits (node rows) n) xs (x ∷ ys) shuffled waiting.each
 
   apart_both : Apart apart (x ∷ ys)
   apart_both = apart_shuffled apart xs (x ∷ ys) shuffled waiting.tracked.0
@@ -171,18 +167,17 @@ module _ (rows rows' rows'' : List Row) (n : ℕ) (x : Entry) (v : Node) (xs ys 
   node_away : (k : ℕ) → (k ≡ x.row → ⊥) → node rows'' k ≡ node rows k
   node_away k u = ap (λ r. r.node) (put.others k u) ∙ kept.nodes k
 
-  each_left : AllByRecursion (Waits (node rows'') n) ys
-  each_left = All-from_get_or (Waits (node rows'') n) ys no_entry (λ k h.
-      let y = get_or ys k no_entry in
-      waits_over (node rows) (node rows'') n n (omega arith) y (node_away y.row (apart_both (suc k) 0 no_entry (omega arith) (omega arith) (omega arith))) (All-get_or (Waits (node rows) n) ys k no_entry h each_both.1))
+  each_left : All (Waits (node rows'') n) ys
+  each_left k d h =
+      let y = get_or ys k d in
+      waits_over (node rows) (node rows'') n n (omega arith) y (node_away y.row (apart_both (suc k) 0 d (omega arith) (omega arith) (omega arith))) (each_both (suc k) d (omega arith))
 
   all_left : AllWait (node rows'') n ys
   all_left i h e =
-      let away : i ≡ x.row → ⊥ = λ same. true≢false (sym settled ∙ sym (ap (λ y. y.settled) (put.here (omega (arith, each_both.0.row, kept.long, fits)))) ∙ ap (λ r. (node rows'' r).settled) (sym same) ∙ e) in
+      let away : i ≡ x.row → ⊥ = λ same. true≢false (sym settled ∙ sym (ap (λ y. y.settled) (put.here (omega (arith, (each_both 0 x (omega arith)).row, kept.long, fits)))) ∙ ap (λ r. (node rows'' r).settled) (sym same) ∙ e) in
       let y = waiting.all i h (sym (ap (λ z. z.settled) (node_away i away)) ∙ e) in
       let other : x ≡ y.0 → ⊥ = λ same. away (sym y.1.1 ∙ ap (λ (z : Entry). z.row) (sym same)) in
-      let left = Contains-tail x ys y.0 other (Contains-from_at (x ∷ ys) y.0 (has_shuffled xs (x ∷ ys) y.0 shuffled y.1.0)) in
-      (y.0, (at_from_Contains ys y.0 left, y.1.1))
+      (y.0, (Contains-tail x ys y.0 other (Contains-permutation xs (x ∷ ys) y.0 shuffled y.1.0), y.1.1))
 
   pub waiting_taken : HeapOrder order ys → Tracked noted apart rows' ys → Waiting rows'' n ys
   waiting_taken ordered tracked = record {

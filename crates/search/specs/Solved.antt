@@ -3,11 +3,9 @@ use Rattle.std.specs.Prelude.{◌≡◌, ℕ, ◌<◌, ◌≤◌, Bool, true, fa
 use Rattle.domain.specs.Meaning.{Meaning}
 use Rattle.plans.specs.Plans.{after, RunsAll, cost_of}
 use Rattle.table.specs.declared.row.Node.{Node}
-use Rattle.table.specs.declared.row.Row.{Row}
 use Rattle.table.specs.Rows.{node}
-use Rattle.search.specs.declared.entry.Entry.{Entry}
 use Rattle.search.specs.Answers.{RepeatsNone}
-use Rattle.search.specs.Searching.{Searching}
+use Rattle.search.specs.Searching.{Stage, Searching}
 use Rattle.search.specs.Ways.{Way, KnownAt, Closed, OneEach}
 
 -- every state that can be reached has a row, and no way to it is cheaper than the row's
@@ -19,10 +17,10 @@ pub record Solved (m : Meaning) (nodes : ℕ → Node) (n : ℕ) : Type 0 where
   pub closed : (i : ℕ) → i < n → Closed m nodes n m.actions (nodes i)
 
 -- on the way there: what is settled is closed
-pub record Exploring (m : Meaning) (rows : List Row) (n : ℕ) (list : List Entry) (w : ℕ) : Type 0 where
+pub record Exploring (m : Meaning) (s : Stage) : Type 0 where
   pub level : ℕ
-  pub searching : Searching m rows n list w level
-  pub closed : (i : ℕ) → i < n → (node rows i).settled ≡ true → Closed m (node rows) n m.actions (node rows i)
+  pub searching : Searching m s level
+  pub closed : (i : ℕ) → i < s.progress.known → (node s.rows i).settled ≡ true → Closed m (node s.rows) s.progress.known m.actions (node s.rows i)
 
 -- a plan for the goal can end in the state; a whole one only in a complete state
 abbrev pub Ends : Meaning → ℕ → Bool → ℕ → Type 0

@@ -3,12 +3,13 @@ ghost use Rattle.std.specs.Prelude.{◌≡◌, ◌≤◌, length, MatchResult};
 ghost use Rattle.plans.specs.Reachable.{MoreThan};
 ghost use Rattle.table.specs.Rows.{node};
 ghost use Rattle.search.specs.declared.fault.SearchFault.TheVariants.{Rows};
+ghost use Rattle.search.specs.Searching.{stage_of};
 ghost use Rattle.search.specs.Solved.{Solved, Exploring};
 
 use crate::entry::Entry;
 use crate::fault::SearchFault;
 use crate::least_costs::MOST_ROWS;
-use crate::reach::Progress;
+use crate::progress::Progress;
 use crate::settle::{expand, take_next};
 use domain::Domain;
 use heap::push;
@@ -18,7 +19,7 @@ use table::row::{Node, Row};
 // The start alone, which waits.
 fn begin<D: Domain>(domain: &D, rows: &mut [Row], list: &mut [Entry]) -> Progress
     requires { (1 ≤ length rows.old) × (length rows.old ≤ MOST_ROWS) × (length rows.old ≤ length list.old) }
-    ensures { Exploring (D.meaning domain.now) rows.new result.known list.new result.waiting }
+    ensures { Exploring (D.meaning domain.now) (stage_of rows.new list.new result) }
 {
     clear(rows);
     let start = Node {

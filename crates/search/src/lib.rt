@@ -8,5 +8,6 @@ pub mod fault;
 pub mod least_costs;
 pub mod noting;
 mod plan;
+mod progress;
 mod reach;
 mod settle;

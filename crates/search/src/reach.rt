@@ -1,24 +1,14 @@
 // A way to a state is offered to the table.
-ghost use Rattle.std.specs.Prelude.{◌≡◌, ℕ, ◌<◌, ◌≤◌, length, None, MatchResult};
-ghost use Rattle.domain.specs.Meaning.{Meaning};
+ghost use Rattle.std.specs.Prelude.{◌<◌, ◌≤◌, length, None, Ok};
 ghost use Rattle.table.specs.Index.{Found};
-ghost use Rattle.table.specs.Rows.{node};
-ghost use Rattle.search.specs.declared.fault.SearchFault.TheVariants.{Rows};
-ghost use Rattle.search.specs.Searching.{Searching, Offered, Reached};
+ghost use Rattle.search.specs.Searching.{stage_of, Dearer, TakesWay};
 
 use crate::entry::Entry;
 use crate::fault::SearchFault;
+use crate::progress::Progress;
 use heap::{lower, push};
 use table::index::{add, find};
 use table::row::{Node, Row};
-
-// How far a search has come: how many rows are known, and how many of them wait.
-// It goes from call to call with the rows and the list: a struct of three borrows would name each of them in every contract.
-#[derive(Clone, Copy)]
-pub(crate) struct Progress {
-    pub(crate) known: usize,
-    pub(crate) waiting: usize,
-}
 
 // The first way to a state: it gets a row, and waits. It is refused where the table is full.
 fn discover(
@@ -27,7 +17,7 @@ fn discover(
     progress: &mut Progress,
     way: &Node,
 ) -> Result<(), SearchFault>
-    ensures { (m : Meaning) (level : ℕ) → Searching m rows.old progress.old.known list.old progress.old.waiting level → Offered m (node rows.old) progress.old.known progress.old.waiting level way.now → Found rows.old progress.old.known way.now.state None → MatchResult result (λ done. Reached m level rows.old progress.old.known progress.old.waiting way.now rows.new progress.new.known list.new progress.new.waiting) (λ fault. (fault ≡ Rows) × (progress.old.known ≡ length rows.old)) }
+    ensures { Found rows.old progress.old.known way.now.state None → TakesWay (stage_of rows.old list.old progress.old) way.now (stage_of rows.new list.new progress.new) result }
 {
     let row = progress.known;
     let known = add(rows, row, *way).ok_or(SearchFault::Rows)?;
@@ -40,7 +30,7 @@ fn discover(
 // A cheaper way to the state of a row that waits.
 fn improve(rows: &mut [Row], list: &mut [Entry], progress: Progress, row: usize, way: &Node)
     requires { row < length rows.old }
-    ensures { (m : Meaning) (level : ℕ) → Searching m rows.old progress.known list.old progress.waiting level → Offered m (node rows.old) progress.known progress.waiting level way.now → row < progress.known → way.now.state ≡ (node rows.old row).state → way.now.cost < (node rows.old row).cost → Reached m level rows.old progress.known progress.waiting way.now rows.new progress.known list.new progress.waiting }
+    ensures { Dearer (stage_of rows.old list.old progress) row way.now → TakesWay (stage_of rows.old list.old progress) way.now (stage_of rows.new list.new progress) (Ok (tt {0})) }
 {
     let place = rows[row].place;
     rows[row].node = *way;
@@ -55,7 +45,7 @@ pub(crate) fn reach(
     way: &Node,
 ) -> Result<(), SearchFault>
     requires { progress.old.known ≤ length rows.old }
-    ensures { (m : Meaning) (level : ℕ) → Searching m rows.old progress.old.known list.old progress.old.waiting level → Offered m (node rows.old) progress.old.known progress.old.waiting level way.now → MatchResult result (λ done. Reached m level rows.old progress.old.known progress.old.waiting way.now rows.new progress.new.known list.new progress.new.waiting) (λ fault. (fault ≡ Rows) × (progress.old.known ≡ length rows.old) × Found rows.old progress.old.known way.now.state None) }
+    ensures { TakesWay (stage_of rows.old list.old progress.old) way.now (stage_of rows.new list.new progress.new) result }
 {
     match find(rows, progress.known, way.state) {
         None => discover(rows, list, progress, way),

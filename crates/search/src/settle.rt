@@ -1,16 +1,13 @@
 // One state is settled: it is taken from the waiting list, and what its actions lead to is offered to the table.
-ghost use Rattle.std.specs.Prelude.{◌≡◌, ℕ, ◌+◌, ◌*◌, ◌<◌, ◌≤◌, true, List, length, take, MatchOption, MatchResult};
-ghost use Rattle.domain.specs.Meaning.{Meaning};
-ghost use Rattle.plans.specs.Reachable.{MoreThan};
-ghost use Rattle.table.specs.declared.row.Row.{Row};
+ghost use Rattle.std.specs.Prelude.{◌+◌, ◌*◌, ◌<◌, ◌≤◌, length, take};
 ghost use Rattle.table.specs.Rows.{node};
-ghost use Rattle.search.specs.declared.fault.SearchFault.TheVariants.{Rows};
-ghost use Rattle.search.specs.Searching.{Searching, Waiting, Settled, Expanded};
+ghost use Rattle.search.specs.Searching.{Stage, stage_of, Searching, Waiting, TakesNext, SettledRow, Expanded, Expands};
 
 use crate::entry::Entry;
 use crate::fault::SearchFault;
 use crate::least_costs::MOST_ROWS;
-use crate::reach::{Progress, reach};
+use crate::progress::Progress;
+use crate::reach::reach;
 use domain::Domain;
 use heap::take_least;
 use table::row::{Node, Row, Step};
@@ -21,9 +18,9 @@ pub(crate) fn take_next(
     list: &mut [Entry],
     progress: &mut Progress,
 ) -> Option<usize>
-    requires { (progress.old.known ≤ length rows.old) × Waiting rows.old progress.old.known (take progress.old.waiting list.old) }
-    ensures known { progress.new.known ≡ progress.old.known }
-    ensures taken { (m : Meaning) (level : ℕ) → Searching m rows.old progress.old.known list.old progress.old.waiting level → MatchOption result ((progress.old.waiting ≡ 0) × (rows.new ≡ rows.old)) (λ i. Settled m rows.old progress.old.known progress.old.waiting i rows.new list.new progress.new.waiting) }
+    requires known { progress.old.known ≤ length rows.old }
+    requires waiting { Waiting rows.old progress.old.known (take progress.old.waiting list.old) }
+    ensures { TakesNext (stage_of rows.old list.old progress.old) (stage_of rows.new list.new progress.new) result }
 {
     let (entry, waiting) = take_least(list, progress.waiting, rows)?;
     progress.waiting = waiting;
@@ -42,7 +39,7 @@ fn offer<D: Domain>(
     action: u8,
 ) -> Result<(), SearchFault>
     requires { (progress.old.known ≤ length rows.old) × (here.now.cost ≤ 60000 * MOST_ROWS) × (here.now.steps < MOST_ROWS) }
-    ensures { (before : List Row) (n w : ℕ) → row < n → (node before row).settled ≡ true → here.now ≡ node before row → Expanded (D.meaning domain.now) before n w row action rows.old progress.old.known list.old progress.old.waiting → MatchResult result (λ done. Expanded (D.meaning domain.now) before n w row (action + 1) rows.new progress.new.known list.new progress.new.waiting) (λ fault. (fault ≡ Rows) × MoreThan (D.meaning domain.now) (length before)) }
+    ensures { (before : Stage) → SettledRow before row here.now → Expanded (D.meaning domain.now) before row action (stage_of rows.old list.old progress.old) → Expands (D.meaning domain.now) before row (action + 1) (stage_of rows.new list.new progress.new) result }
 {
     let state = domain.next(here.state, action);
     if state == here.state {
@@ -66,8 +63,9 @@ pub(crate) fn expand<D: Domain>(
     progress: &mut Progress,
     row: usize,
 ) -> Result<(), SearchFault>
-    requires { (row < progress.old.known) × ((node rows.old row).settled ≡ true) × Searching (D.meaning domain.now) rows.old progress.old.known list.old progress.old.waiting (node rows.old row).cost }
-    ensures { MatchResult result (λ done. Expanded (D.meaning domain.now) rows.old progress.old.known progress.old.waiting row (D.meaning domain.now).actions rows.new progress.new.known list.new progress.new.waiting) (λ fault. (fault ≡ Rows) × MoreThan (D.meaning domain.now) (length rows.old)) }
+    requires row { SettledRow (stage_of rows.old list.old progress.old) row (node rows.old row) }
+    requires searching { Searching (D.meaning domain.now) (stage_of rows.old list.old progress.old) (node rows.old row).cost }
+    ensures { Expands (D.meaning domain.now) (stage_of rows.old list.old progress.old) row (D.meaning domain.now).actions (stage_of rows.new list.new progress.new) result }
 {
     let here = rows[row].node;
     for action in 0..domain.action_count() {

@@ -4,11 +4,11 @@ use Rattle.search.proofs.Reaching.{discovered}
 use Rattle.search.proofs.reach.discover.Goals as goal
 
 pub returns : goal.returns
-returns c = λ m level s offered absent.
+returns c = λ absent m level so.
     let known = c.in_ok-known.known in
     let waiting = c.in_ok-waiting.waiting in
     let added = c.in_ok-known.ensures.ok_part in
     let pushed = c.in_ok-waiting.ensures.ok_part in
-    discovered m level c.args.rows.now c.add.new.rows c.push.new.rows c.args.progress.now.known c.args.list.now c.push.new.list c.args.progress.now.waiting c.args.way.now c.push.ensures.kept s offered known waiting c.new-entry.result
+    discovered so c.add.new.rows c.push.new.rows c.push.new.list c.push.ensures.kept known waiting c.new-entry.result
     (sym (cond_some _ _ _ (sym c.add.ensures.value ∙ added)).1) c.new-entry.ensures absent
     (MatchOption-at_some _ _ known added c.add.ensures.rows) (MatchOption-at_some _ _ waiting pushed c.push.ensures.pushed) (MatchOption-at_some _ _ waiting pushed c.push.ensures.tracked)

@@ -1,7 +1,5 @@
-use Rattle.std.proofs.Common.{◌≡◌}
-use Rattle.table.specs.Rows.{node}
-use Rattle.search.specs.Searching.{Expanded}
+use Rattle.search.specs.Searching.{stage_of, SettledRow, Expanded}
 use Rattle.search.proofs.settle.expand.Given as goal
 
 abbrev pub invariant-loop-action : goal.invariant-loop-action
-invariant-loop-action g l = (l.here ≡ node l.initial.rows l.row) × Expanded (g.D.Domain.meaning l.domain) l.initial.rows l.initial.progress.known l.initial.progress.waiting l.row l.action l.rows l.progress.known l.list l.progress.waiting
+invariant-loop-action g l = let before = stage_of l.initial.rows l.initial.list l.initial.progress in SettledRow before l.row l.here × Expanded (g.D.Domain.meaning l.domain) before l.row l.action (stage_of l.rows l.list l.progress)

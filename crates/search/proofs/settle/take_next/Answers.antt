@@ -5,14 +5,14 @@ use Rattle.search.proofs.settle.take_next.Goals as goal
 pub bounds-rows-entry : goal.bounds-rows-entry
 bounds-rows-entry c =
     let told = c.in_ok-entry.ensures in
-    omega (arith, taken_row c.args.rows.now c.args.progress.now.known c.in_ok-entry.entry _ _ c.requires.0 c.requires.1 told.taken.entries, told.kept.long)
+    omega (arith, taken_row c.args.rows.now c.args.progress.now.known c.in_ok-entry.entry _ _ c.requires.known c.requires.waiting told.taken.entries, told.kept.long)
 
 pub offset_bounds-rows-entry : goal.offset_bounds-rows-entry
 offset_bounds-rows-entry c =
-    let h = taken_row c.args.rows.now c.args.progress.now.known c.in_ok-entry.entry _ _ c.requires.0 c.requires.1 c.in_ok-entry.ensures.taken.entries in
+    let h = taken_row c.args.rows.now c.args.progress.now.known c.in_ok-entry.entry _ _ c.requires.known c.requires.waiting c.in_ok-entry.ensures.taken.entries in
     search rules
 
-pub returns-clause-taken : goal.returns-clause-taken
-returns-clause-taken c = λ m level s.
+pub returns : goal.returns
+returns c = λ m level so.
     let told = c.in_ok-entry.ensures in
-    settled_next m level c.args.rows.now c.take_least.new.rows _ c.args.progress.now.known c.args.list.now c.take_least.new.list c.args.progress.now.waiting c.in_ok-entry.waiting c.in_ok-entry.entry told.taken told.kept told.tracked (search rules) s
+    settled_next so c.take_least.new.rows _ c.take_least.new.list c.in_ok-entry.waiting c.in_ok-entry.entry told.taken told.kept told.tracked (search rules)
