@@ -3,13 +3,6 @@ use Rattle.table.specs.Rows.{node}
 use Rattle.search.proofs.Answering.{found_shown, found_not, shown_low, found_same}
 use Rattle.search.proofs.least_costs.answer.Goals as goal
 
-pub write_plan-length-requires : goal.write_plan-length-requires
-write_plan-length-requires g c =
-    let d = c.args.domain.now in
-    let m = g.D.Domain.meaning d in
-    let ends = c.cheapest_ends-without.ensures in
-    (m, (c.args.known, (c.requires.0, (shown_low m (g.met.D.Domain.limits d) (node c.args.rows.now) c.args.known c.requires.0 c.args.goal c.args.plan.now _ _ c.in-Some.row (sym c.or.ensures ∙ c.in-Some.is) ends.without ends.with, c.requires.1))))
-
 pub returns-in-Some : goal.returns-in-Some
 returns-in-Some g c =
     let d = c.args.domain.now in

@@ -3,16 +3,8 @@ use Rattle.std.proofs.lemmas.Result.{MatchResult-weaker}
 use Rattle.table.specs.declared.row.Node.{Node}
 use Rattle.table.specs.declared.row.Step.{Step}
 use Rattle.table.specs.Rows.{node}
-use Rattle.search.proofs.Settling.{offers, expand_steps, expand_full, expand_stays}
+use Rattle.search.proofs.Settling.{offers, expand_steps, expand_full}
 use Rattle.search.proofs.settle.offer.Goals as goal
-
--- the action leads nowhere else
-pub returns-then-state-here : goal.returns-then-state-here
-returns-then-state-here g c = λ before own so.
-    let d = c.args.domain.now in
-    let m = g.D.Domain.meaning d in
-    let told : c.next-state.result ≡ m.next (node before.rows c.args.row).state c.args.action = c.next-state.ensures ∙ ap (λ (x : Node). m.next x.state c.args.action) own.here in
-    expand_stays (g.met.D.Domain.limits d) own so (sym told ∙ c.if-state-here.true ∙ ap (λ (x : Node). x.state) own.here)
 
 pub returns : goal.returns
 returns g c = λ before own so.
