@@ -5,7 +5,7 @@ use Rattle.std.specs.Cmp.{IsTotalOrder, nat_cmp_total, on_total, then_total}
 use Rattle.std.specs.Ordering.{nat_cmp, ordering_then}
 use Rattle.table.specs.declared.row.Node.{Node}
 use Rattle.table.specs.declared.row.Row.{Row}
-use Rattle.table.specs.Rows.{at}
+use Rattle.table.specs.Rows.{at, link_of}
 use Rattle.search.specs.declared.entry.Entry.{Entry}
 
 -- the entry of a node in a row
@@ -31,4 +31,4 @@ apart x y = x.row ≡ y.row → ⊥
 pub record Kept (before after : List Row) : Type 0 where
   pub long : length after ≡ length before
   pub nodes : (k : ℕ) → (at after k).node ≡ (at before k).node
-  pub links : (k : ℕ) → (at after k).link ≡ (at before k).link
+  pub links : (k : ℕ) → link_of after k ≡ link_of before k

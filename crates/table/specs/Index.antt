@@ -2,7 +2,7 @@
 use Rattle.std.specs.Prelude.{◌≡◌, ℕ, ◌+◌, ◌*◌, ◌/◌, ◌%◌, ◌^◌, ◌<◌, ◌≤◌, List, length, Some, None, Option, ◌≢◌}
 use Rattle.table.specs.declared.row.Node.{Node}
 use Rattle.table.specs.declared.row.Row.{Row}
-use Rattle.table.specs.Rows.{at, node}
+use Rattle.table.specs.Rows.{at, node, link_of}
 
 -- the chain of a state, spread over the table by a multiplication
 abbrev pub chain_of : ℕ → ℕ → ℕ
@@ -19,8 +19,8 @@ Latest rows n b (Some j) = (j < n) × (chain rows j ≡ b) × ((i : ℕ) → j <
 -- the first n rows can be found
 pub record Indexed (rows : List Row) (n : ℕ) : Type 0 where
   pub fits : n ≤ length rows
-  pub heads : (b : ℕ) → b < length rows → Latest rows n b (at rows b).link.head
-  pub nexts : (i : ℕ) → i < n → Latest rows i (chain rows i) (at rows i).link.next
+  pub heads : (b : ℕ) → b < length rows → Latest rows n b (link_of rows b).head
+  pub nexts : (i : ℕ) → i < n → Latest rows i (chain rows i) (link_of rows i).next
 
 -- what a look-up answers: a row that has the state, or that none of the first n has it
 abbrev pub Found : List Row → ℕ → ℕ → Option ℕ → Type 0
@@ -33,17 +33,17 @@ pub record Put (before : List Row) (i : ℕ) (new : Node) (after : List Row) : T
   pub here : i < length before → node after i ≡ new
   pub others : (k : ℕ) → (k ≢ i) → at after k ≡ at before k
   pub place : (at after i).place ≡ (at before i).place
-  pub link : (at after i).link ≡ (at before i).link
+  pub link : link_of after i ≡ link_of before i
 
 -- row i joins the chain of its state at the front
 pub record Linked (before : List Row) (i : ℕ) (after : List Row) : Type 0 where
   pub long : length after ≡ length before
   pub nodes : (k : ℕ) → node after k ≡ node before k
   pub places : (k : ℕ) → (at after k).place ≡ (at before k).place
-  pub next : (at after i).link.next ≡ (at before (chain before i)).link.head
-  pub nexts : (k : ℕ) → (k ≢ i) → (at after k).link.next ≡ (at before k).link.next
-  pub head : (at after (chain before i)).link.head ≡ Some i
-  pub heads : (b : ℕ) → (b ≢ chain before i) → (at after b).link.head ≡ (at before b).link.head
+  pub next : (link_of after i).next ≡ (link_of before (chain before i)).head
+  pub nexts : (k : ℕ) → (k ≢ i) → (link_of after k).next ≡ (link_of before k).next
+  pub head : (link_of after (chain before i)).head ≡ Some i
+  pub heads : (b : ℕ) → (b ≢ chain before i) → (link_of after b).head ≡ (link_of before b).head
 
 -- a row more: the nodes before it and all places stay, and it can be found if they could
 pub record Added (before : List Row) (n : ℕ) (new : Node) (after : List Row) : Type 0 where
