@@ -1,5 +1,5 @@
 -- The rows of a board.
-use Rattle.std.specs.Prelude.{◌≡◌, ℕ, Bool, true, false, List, Some, None, Option, nat_eq, nat_lt}
+use Rattle.std.specs.Prelude.{◌≡◌, ℕ, Bool, true, false, List, length, Some, None, Option, nat_eq, nat_lt}
 use Rattle.std.specs.List.{All}
 use Rattle.plans.specs.declared.verdict.Verdict.{Verdict}
 use Rattle.plans.specs.declared.verdict.Verdict.TheVariants as verdicts
@@ -42,3 +42,9 @@ agrees row = fits row.verdict row.without row.with
 
 abbrev pub AllAgree : List BoardRow → Type 0
 AllAgree = All (λ row. agrees row ≡ true)
+
+-- what a contract sees of a board: its rows, with what holds of those of every board
+pub record BoardRows : Type 0 where
+  pub rows : List BoardRow
+  pub long : length rows ≡ 32
+  pub agree : AllAgree rows

@@ -2,5 +2,4 @@
 #![tactic(auto)]
 
 pub mod board;
-pub mod board_rows;
 pub mod row;
