@@ -6,15 +6,13 @@ use domain::fault::Numbered;
 #[derive(Clone, Copy, PartialEq, Eq, Debug)]
 pub enum RankFault {
     // the place is shorter than the ranking
-    Place,
+    Place = 18,
 }
 
 impl Numbered for RankFault {
     ghost numbered = { rank_number };
 
     fn number(self) -> u8 {
-        match self {
-            RankFault::Place => 18,
-        }
+        self as u8
     }
 }
