@@ -6,8 +6,9 @@ use judge::course::Course;
 use judge::marks::admits;
 use logs::log::ObservationLog;
 use reports::folders::{bytes_in, bytes_or_empty};
-use reports::numbers::numbers;
+use reports::row::Row;
 use std::alloc::{AllocError, Global};
+use std::fmt;
 
 // A list of actions to be judged beside a domain by a log.
 #[derive(Drop)]
@@ -18,22 +19,10 @@ struct Judged<'a, D> {
 }
 
 impl<D: Domain> Judged<'_, D> {
-    // The states that the first actions of the list lead through, from the start on.
-    fn states(&self, heap: Global, ran: usize) -> Result<String, AllocError> {
-        let mut state = self.domain.start();
-        let mut through = vec![in heap; state]?;
-        for action in self.list.iter().take(ran) {
-            state = self.domain.next(state, *action);
-            through.push(state)?;
-        }
-        numbers(heap, through.as_slice(), "none")
-    }
-
-    fn goals_met(&self, heap: Global, state: u64) -> Result<String, AllocError> {
-        let goals: Vec<u8> = (0..self.domain.goal_count())
+    fn goals_met(&self, heap: Global, state: u64) -> Result<Vec<u8>, AllocError> {
+        (0..self.domain.goal_count())
             .filter(|goal| self.domain.meets(state, *goal))
-            .collect(heap)?;
-        numbers(heap, goals.as_slice(), "none")
+            .collect(heap)
     }
 
     fn say_carried(&self, rt: &HostRuntime) -> anyhow::Result<()> {
@@ -44,7 +33,7 @@ impl<D: Domain> Judged<'_, D> {
         } else if count == 0 {
             println!(rt; "  carries the empty log")?;
         } else {
-            let at = numbers(rt.alloc(), &places[..count], "none")?;
+            let at = Row(&places[..count], "none");
             println!(rt; "  carries the log at places: {at}")?;
         }
         Ok(())
@@ -53,7 +42,8 @@ impl<D: Domain> Judged<'_, D> {
     // What a list that runs is worth.
     fn say_worth(&self, rt: &HostRuntime, course: Course) -> anyhow::Result<()> {
         let cost = course.cost;
-        let goals = self.goals_met(rt.alloc(), course.last)?;
+        let met = self.goals_met(rt.alloc(), course.last)?;
+        let goals = Row(met.as_slice(), "none");
         let admitted = if admits(self.domain, self.log, self.list) {
             "yes"
         } else {
@@ -68,8 +58,7 @@ impl<D: Domain> Judged<'_, D> {
     fn say(&self, rt: &HostRuntime) -> anyhow::Result<()> {
         let course = Course::of(self.domain, self.list);
         let Course { ran, last, .. } = course;
-        let through = self.states(rt.alloc(), ran)?;
-        println!(rt; "  states: {through}")?;
+        println!(rt; "  states: {}", Through { judged: self, ran })?;
         match self.list.get(ran) {
             Some(action) => {
                 println!(rt; "  cannot run: action {action} at place {ran}, in state {last}")?;
@@ -80,9 +69,29 @@ impl<D: Domain> Judged<'_, D> {
     }
 }
 
+// The states that the first actions of a list lead through, from the start on.
+#[derive(Drop)]
+struct Through<'a, D> {
+    judged: &'a Judged<'a, D>,
+    ran: usize,
+}
+
+impl<D: Domain> fmt::Display for Through<'_, D> {
+    fn fmt<W: fmt::Write>(&self, f: &mut fmt::Formatter<W>) -> fmt::Result {
+        let Judged { domain, list, .. } = self.judged;
+        let mut state = domain.start();
+        write!(f, "{state}")?;
+        for action in list.iter().take(self.ran) {
+            state = domain.next(state, *action);
+            write!(f, " {state}")?;
+        }
+        Ok(())
+    }
+}
+
 fn say_list(rt: &HostRuntime, list: &[u8], entries: &[u8]) -> anyhow::Result<()> {
-    let actions = numbers(rt.alloc(), list, "empty")?;
-    let seen = numbers(rt.alloc(), entries, "empty")?;
+    let actions = Row(list, "empty");
+    let seen = Row(entries, "empty");
     println!(rt; "  list: {actions}, log: {seen}")?;
     Ok(())
 }

@@ -1,26 +1,58 @@
 // A set-up card.
-use crate::domains_in_words::{InWords, cost_in_words};
+use crate::domains_in_words::{Cost, InWords};
 use cards::action::Action;
 use cards::card::Card;
 use domain::Domain;
 use fluents::FluentSet;
-use reports::numbers::numbers;
-use std::alloc::{AllocError, Global};
+use std::fmt;
 
-// The fluents of the set that are below the width, in order.
-fn set_in_words(heap: Global, width: u8, set: FluentSet) -> Result<String, AllocError> {
-    let fluents: Vec<u8> = (0..width)
-        .filter(|fluent| set.contains(*fluent))
-        .collect(heap)?;
-    numbers(heap, fluents.as_slice(), "nothing")
+// The fluents of a set that are below the width, in order.
+#[derive(Clone, Copy)]
+pub(crate) struct Fluents {
+    width: u8,
+    set: FluentSet,
 }
 
-fn action_in_words(heap: Global, width: u8, action: Action) -> Result<String, AllocError> {
-    let needs = set_in_words(heap, width, action.needs)?;
-    let adds = set_in_words(heap, width, action.adds)?;
-    let deletes = set_in_words(heap, width, action.deletes)?;
-    let cost = cost_in_words(heap, action.cost, action.marked)?;
-    format!(in heap; "needs {needs}; adds {adds}; deletes {deletes}; {cost}")
+impl fmt::Display for Fluents {
+    fn fmt<W: fmt::Write>(&self, f: &mut fmt::Formatter<W>) -> fmt::Result {
+        let mut fluents = (0..self.width).filter(|fluent| self.set.contains(*fluent));
+        let Some(first) = fluents.next() else {
+            return f.write_str("nothing");
+        };
+        write!(f, "{first}")?;
+        for fluent in fluents {
+            write!(f, " {fluent}")?;
+        }
+        Ok(())
+    }
+}
+
+// An action of a card of this width.
+#[derive(Clone, Copy)]
+pub(crate) struct CardAction {
+    width: u8,
+    action: Action,
+}
+
+impl fmt::Display for CardAction {
+    fn fmt<W: fmt::Write>(&self, f: &mut fmt::Formatter<W>) -> fmt::Result {
+        let width = self.width;
+        let Action {
+            needs,
+            adds,
+            deletes,
+            cost,
+            marked,
+        } = self.action;
+        let needs = Fluents { width, set: needs };
+        let adds = Fluents { width, set: adds };
+        let deletes = Fluents {
+            width,
+            set: deletes,
+        };
+        let cost = Cost { cost, marked };
+        write!(f, "needs {needs}; adds {adds}; deletes {deletes}; {cost}")
+    }
 }
 
 impl InWords for Card {
@@ -30,27 +62,29 @@ impl InWords for Card {
 
     const ACTION: &'static str = "action";
 
+    type Action = CardAction;
+
+    type State = Fluents;
+
     fn size(&self) -> u8 {
         self.width()
     }
 
-    fn start_in_words(&self, heap: Global) -> Result<String, AllocError> {
-        set_in_words(heap, self.width(), FluentSet::from(self.start()))
+    fn start_in_words(&self) -> Fluents {
+        Fluents {
+            width: self.width(),
+            set: FluentSet::from(self.start()),
+        }
     }
 
-    fn actions_in_words(&self, heap: Global) -> Result<Vec<String>, AllocError> {
+    fn action_in_words(&self, number: u8) -> Option<CardAction> {
         let width = self.width();
-        (0..self.action_count())
-            .filter_map(|number| self.action(number))
-            .map(|action| action_in_words(heap, width, action))
-            .try_collect(heap)
+        self.action(number)
+            .map(|action| CardAction { width, action })
     }
 
-    fn goals_in_words(&self, heap: Global) -> Result<Vec<String>, AllocError> {
+    fn goal_in_words(&self, number: u8) -> Option<Fluents> {
         let width = self.width();
-        (0..self.goal_count())
-            .filter_map(|number| self.goal(number))
-            .map(|goal| set_in_words(heap, width, goal))
-            .try_collect(heap)
+        self.goal(number).map(|set| Fluents { width, set })
     }
 }

@@ -1,6 +1,6 @@
 // A domain, in the words of its kind.
 use domain::Domain;
-use std::alloc::{AllocError, Global};
+use std::fmt;
 
 // The words that a kind of domain has for its parts.
 pub(crate) trait InWords: Domain {
@@ -11,24 +11,37 @@ pub(crate) trait InWords: Domain {
 
     const ACTION: &'static str;
 
+    // what is printed of an action, and of the start or a goal
+    type Action: fmt::Display + Drop;
+
+    type State: fmt::Display + Drop;
+
     // How many fluents or places there are.
     fn size(&self) -> u8;
 
-    fn start_in_words(&self, heap: Global) -> Result<String, AllocError>;
+    fn start_in_words(&self) -> Self::State;
 
-    fn actions_in_words(&self, heap: Global) -> Result<Vec<String>, AllocError>;
+    fn action_in_words(&self, number: u8) -> Option<Self::Action>;
 
-    fn goals_in_words(&self, heap: Global) -> Result<Vec<String>, AllocError>;
+    fn goal_in_words(&self, number: u8) -> Option<Self::State>;
 }
 
 // What an action costs, and whether it is marked.
-pub(crate) fn cost_in_words(heap: Global, cost: u16, marked: bool) -> Result<String, AllocError> {
-    let mark = if marked { ", marked" } else { "" };
-    format!(in heap; "cost {cost}{mark}")
+#[derive(Clone, Copy)]
+pub(crate) struct Cost {
+    pub(crate) cost: u16,
+    pub(crate) marked: bool,
+}
+
+impl fmt::Display for Cost {
+    fn fmt<W: fmt::Write>(&self, f: &mut fmt::Formatter<W>) -> fmt::Result {
+        let cost = self.cost;
+        let mark = if self.marked { ", marked" } else { "" };
+        write!(f, "cost {cost}{mark}")
+    }
 }
 
 pub(crate) fn say_domain<D: InWords>(rt: &HostRuntime, domain: &D) -> anyhow::Result<()> {
-    let heap = rt.alloc();
     let kind = D::KIND;
     let states = D::STATES;
     let action = D::ACTION;
@@ -36,13 +49,15 @@ pub(crate) fn say_domain<D: InWords>(rt: &HostRuntime, domain: &D) -> anyhow::Re
     let size = domain.size();
     let actions = domain.action_count();
     let goals = domain.goal_count();
-    let start = domain.start_in_words(heap)?;
+    let start = domain.start_in_words();
     println!(rt; "  {kind}: width {width}, {size} {states}, {actions} {action}s, {goals} goals")?;
     println!(rt; "  start: {start}")?;
-    for (number, words) in domain.actions_in_words(heap)?.iter().enumerate() {
+    let told = (0..actions).filter_map(|number| domain.action_in_words(number));
+    for (number, words) in told.enumerate() {
         println!(rt; "  {action} {number}: {words}")?;
     }
-    for (number, words) in domain.goals_in_words(heap)?.iter().enumerate() {
+    let told = (0..goals).filter_map(|number| domain.goal_in_words(number));
+    for (number, words) in told.enumerate() {
         println!(rt; "  goal {number}: {words}")?;
     }
     Ok(())

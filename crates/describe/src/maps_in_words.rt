@@ -1,15 +1,38 @@
 // A field map.
-use crate::domains_in_words::{InWords, cost_in_words};
+use crate::domains_in_words::{Cost, InWords};
 use domain::Domain;
 use maps::field_map::FieldMap;
 use maps::moves::Move;
-use std::alloc::{AllocError, Global};
+use std::fmt;
 
-fn move_in_words(heap: Global, step: Move) -> Result<String, AllocError> {
-    let from = step.from.0;
-    let to = step.to.0;
-    let cost = cost_in_words(heap, step.cost, step.marked)?;
-    format!(in heap; "from place {from} to place {to}; {cost}")
+// A place, by its number.
+#[derive(Clone, Copy)]
+pub(crate) struct PlaceNumber(u64);
+
+impl fmt::Display for PlaceNumber {
+    fn fmt<W: fmt::Write>(&self, f: &mut fmt::Formatter<W>) -> fmt::Result {
+        let number = self.0;
+        write!(f, "place {number}")
+    }
+}
+
+// A move of a map.
+#[derive(Clone, Copy)]
+pub(crate) struct MapMove(Move);
+
+impl fmt::Display for MapMove {
+    fn fmt<W: fmt::Write>(&self, f: &mut fmt::Formatter<W>) -> fmt::Result {
+        let Move {
+            from,
+            to,
+            cost,
+            marked,
+        } = self.0;
+        let from = PlaceNumber(from.into());
+        let to = PlaceNumber(to.into());
+        let cost = Cost { cost, marked };
+        write!(f, "from {from} to {to}; {cost}")
+    }
 }
 
 impl InWords for FieldMap {
@@ -19,25 +42,23 @@ impl InWords for FieldMap {
 
     const ACTION: &'static str = "move";
 
+    type Action = MapMove;
+
+    type State = PlaceNumber;
+
     fn size(&self) -> u8 {
         self.places()
     }
 
-    fn start_in_words(&self, heap: Global) -> Result<String, AllocError> {
-        format!(in heap; "place {}", self.start())
+    fn start_in_words(&self) -> PlaceNumber {
+        PlaceNumber(self.start())
     }
 
-    fn actions_in_words(&self, heap: Global) -> Result<Vec<String>, AllocError> {
-        (0..self.action_count())
-            .filter_map(|number| self.move_at(number))
-            .map(|step| move_in_words(heap, step))
-            .try_collect(heap)
+    fn action_in_words(&self, number: u8) -> Option<MapMove> {
+        self.move_at(number).map(MapMove)
     }
 
-    fn goals_in_words(&self, heap: Global) -> Result<Vec<String>, AllocError> {
-        (0..self.goal_count())
-            .filter_map(|number| self.goal(number))
-            .map(|goal| format!(in heap; "place {}", goal.0))
-            .try_collect(heap)
+    fn goal_in_words(&self, number: u8) -> Option<PlaceNumber> {
+        self.goal(number).map(|place| PlaceNumber(place.into()))
     }
 }

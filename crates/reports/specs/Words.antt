@@ -1,6 +1,7 @@
 -- What is printed.
-use Rattle.std.specs.Prelude.{ℕ, List, [], ◌∷◌, ◌++◌, codes, decimal}
-use Rattle.std.specs.List.{join_by}
+use Rattle.std.specs.Prelude.{◌≡◌, ℕ, List, [], ◌∷◌, ◌++◌, Some, Option, codes, decimal, refl}
+use Rattle.std.specs.List.{flat_map, join_by}
+use Rattle.std.specs.Fmt.{◌++?◌}
 use Rattle.domain.specs.Faults.{read_number, position_of}
 use Rattle.domain.specs.declared.fault.ReadFault.{ReadFault}
 use Rattle.domain.specs.declared.fault.ReadFault.TheVariants.{Letter, Header, Count, Start, Cut, Bits, Field, End}
@@ -24,7 +25,27 @@ question_words (End p) = codes "does the file end here?"
 abbrev pub refusal_line : ReadFault → List ℕ
 refusal_line fault = refusal_words (read_number fault) (position_of fault).«record» (position_of fault).byte ++ (codes ": " ++ question_words fault)
 
--- a row of numbers, and the word that stands for a row of none
+-- a row of items, and the word that stands for a row of none
 abbrev pub row_words : {T : Type 0} → (T → List ℕ) → List ℕ → List T → List ℕ
 row_words text none [] = none
 row_words text none (x ∷ xs) = join_by text (codes " ") (x ∷ xs)
+
+-- a space and an item, for each of a row; none where one has no text
+abbrev pub rest_text : {T : Type 0} → (T → Option (List ℕ)) → List T → Option (List ℕ)
+rest_text output [] = Some []
+rest_text output (x ∷ xs) = (Some (codes " ") ++? output x) ++? rest_text output xs
+
+-- the text of a row, if each of its items has one
+abbrev pub row_text : {T : Type 0} → (T → Option (List ℕ)) → List ℕ → List T → Option (List ℕ)
+row_text output none [] = Some none
+row_text output none (x ∷ xs) = output x ++? rest_text output xs
+
+-- where each item has a text, that of the row is those with a space between each two
+module _ {T : Type 0} (output : T → Option (List ℕ)) (text : T → List ℕ) (shown : (x : T) → output x ≡ Some (text x)) where
+  rest_is : (xs : List T) → rest_text output xs ≡ Some (flat_map (λ x. codes " " ++ text x) xs)
+  rest_is [] = refl
+  rest_is (x ∷ xs) = rw (shown x, rest_is xs) refl
+
+  pub row_text_is : (none : List ℕ) (row : List T) → row_text output none row ≡ Some (row_words text none row)
+  row_text_is none [] = refl
+  row_text_is none (x ∷ xs) = rw (shown x, rest_is xs) refl

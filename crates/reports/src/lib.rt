@@ -2,5 +2,5 @@
 #![tactic(auto)]
 
 pub mod folders;
-pub mod numbers;
 pub mod refusal;
+pub mod row;
