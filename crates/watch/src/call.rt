@@ -1,6 +1,7 @@
 // Calls in a list, and places for their answers.
 use crate::fault::WatchFault;
 use crate::report::Report;
+use search::least_costs::MOST_ROWS;
 
 // A report is made on the first rows of a table, the first places of a waiting list and the first places of a plan place,
 // as many as there are of each where it names more.
@@ -27,5 +28,5 @@ pub type Answer = Result<Option<Report>, WatchFault>;
 #[derive(Clone, Copy)]
 pub struct Slot {
     pub answer: Answer,
-    pub plan: [u8; 4096],
+    pub plan: [u8; MOST_ROWS],
 }
