@@ -1,6 +1,6 @@
 -- The worked examples, by tests that antt computes.
-use Rattle.std.proofs.Common.{◌≡◌, ℕ, Bool, true, false, ◌&&◌, ltb, List, [], ◌∷◌, Ok, refl}
-use Rattle.std.specs.List.{AllByRecursion as All}
+use Rattle.std.proofs.Common.{◌≡◌, ℕ, Bool, true, false, ltb, List, [], ◌∷◌, Ok, refl}
+use Rattle.std.specs.List.{list_all, AllByRecursion as All}
 use Rattle.std.proofs.lemmas.Bool.{and_parts, ltb-true}
 use Rattle.domain.specs.Meaning.{Limits}
 use Rattle.files.specs.declared.kind.Kind.TheVariants as kind
@@ -22,8 +22,7 @@ use Rattle.examples.proofs.Lines.{Shown, lines_hold}
 
 -- what is read from bytes keeps the limits
 abbrev pub are_bytes : List ℕ → Bool
-are_bytes [] = true
-are_bytes (b ∷ bs) = ltb b 256 && are_bytes bs
+are_bytes bs = list_all (λ b. ltb b 256) bs
 
 bytes : (bs : List ℕ) → are_bytes bs ≡ true → Bytes bs
 bytes [] h = tt
