@@ -1,5 +1,5 @@
 -- Steps of the functions that write.
-use Rattle.std.proofs.Common.{◌≡◌, ℕ, zero, suc, ◌+◌, ◌-◌, ◌*◌, ◌%◌, ◌<◌, ◌≤◌, List, [], ◌∷◌, ◌++◌, map, length, get_or, take, drop, set, Ok, Err, sym, refl, ap, ◌∙◌, subst, append_assoc, arith}
+use Rattle.std.proofs.Common.{◌⊎◌, ⊎_elim, ◌≡◌, ℕ, ◌+◌, ◌-◌, ◌*◌, ◌%◌, ◌<◌, ◌≤◌, List, [], ◌∷◌, ◌++◌, map, length, get_or, take, drop, set, Ok, Err, sym, refl, ap, ◌∙◌, subst, append_assoc, arith}
 use Rattle.std.proofs.lemmas.List.{at_drop_more, drop_all, take_at, drop_at, length-take-le, drop-drop, get_or-drop, length-append, length-drop, length-map, append-nil, take-append-drop, take_all}
 use Rattle.std.proofs.lemmas.List.Folds.{flat_map-map}
 use Rattle.std.proofs.lemmas.Bool.{le-leb, lt-leb, cond-true, cond-false}
@@ -90,37 +90,16 @@ fields_few Map Action = omega arith
 fields_few Map Goal = omega arith
 
 -- what is written of four values is what is written of the values themselves
-four_same : (vs : List ℕ) (i : ℕ) → i < 4 → get_or (four_of vs) i 0 ≡ get_or vs i 0
-four_same vs zero h = refl
-four_same vs (suc zero) h = refl
-four_same vs (suc (suc zero)) h = refl
-four_same vs (suc (suc (suc zero))) h = refl
-four_same vs (suc (suc (suc (suc i)))) h = absurd (omega arith)
+pub bytes_of_four : (k : Kind) (p : Part) (vs : List ℕ) → all_field_bytes (fields_of k p) (four_of vs) ≡ all_field_bytes (fields_of k p) vs
+bytes_of_four Card Action vs = simp (get_or-drop)
+bytes_of_four Card Goal vs = refl
+bytes_of_four Map Action vs = simp (get_or-drop)
+bytes_of_four Map Goal vs = refl
 
-rest_same : (n : ℕ) (vs ws : List ℕ) → ((i : ℕ) → i < suc n → get_or vs i 0 ≡ get_or ws i 0) → (i : ℕ) → i < n → get_or (drop 1 vs) i 0 ≡ get_or (drop 1 ws) i 0
-rest_same n vs ws h i l = get_or-drop 1 vs i 0 ∙ h (1 + i) (omega arith) ∙ sym (get_or-drop 1 ws i 0)
-
-bytes_same : (fs : List Field) (vs ws : List ℕ) → ((i : ℕ) → i < length fs → get_or vs i 0 ≡ get_or ws i 0) → all_field_bytes fs vs ≡ all_field_bytes fs ws
-bytes_same [] vs ws h = refl
-bytes_same (f ∷ fs) vs ws h =
-    ap (λ v. field_bytes f v ++ all_field_bytes fs (drop 1 vs)) (h 0 (omega arith))
-    ∙ ap (λ t. field_bytes f (get_or ws 0 0) ++ t) (bytes_same fs (drop 1 vs) (drop 1 ws) (rest_same (length fs) vs ws h))
-
-map_same : (fs : List Field) (vs ws : List ℕ) (top : ℕ) → ((i : ℕ) → i < length fs → get_or vs i 0 ≡ get_or ws i 0) → bit_map fs vs top ≡ bit_map fs ws top
-map_same [] vs ws top h = refl
-map_same (f ∷ fs) vs ws top h =
-    ap (λ v. from_bool (is_written f v) + 2 * bit_map fs (drop 1 vs) top) (h 0 (omega arith))
-    ∙ ap (λ n. from_bool (is_written f (get_or ws 0 0)) + 2 * n) (map_same fs (drop 1 vs) (drop 1 ws) top (rest_same (length fs) vs ws h))
-
-module _ (k : Kind) (p : Part) (vs : List ℕ) where
-  same : (i : ℕ) → i < length (fields_of k p) → get_or (four_of vs) i 0 ≡ get_or vs i 0
-  same i h = four_same vs i (omega (arith, fields_few k p))
-
-  pub bytes_of_four : all_field_bytes (fields_of k p) (four_of vs) ≡ all_field_bytes (fields_of k p) vs
-  bytes_of_four = bytes_same (fields_of k p) (four_of vs) vs same
-
-  pub map_of_four : (top : ℕ) → bit_map (fields_of k p) (four_of vs) top ≡ bit_map (fields_of k p) vs top
-  map_of_four top = map_same (fields_of k p) (four_of vs) vs top same
+-- where no field or no value is left, all is written
+pub fields_all : (fs : List Field) (vs bytes p q : List ℕ) (m : ℕ) → length fs ≤ length vs → (length fs ≡ 0) ⊎ (length vs ≡ 0) → Begun bytes (all_field_bytes fs vs) p q m → Wrote bytes p q m
+fields_all [] vs bytes p q m few none b = begun_all bytes p q m b
+fields_all (f ∷ fs) vs bytes p q m few none b = ⊎_elim (λ e. absurd (omega arith)) (λ e. absurd (omega arith)) none
 
 -- the records of the items from the i-th on
 module _ {X : Type 0} (l : Layout) (written : X → Entry) (xs : List X) (i : ℕ) (x : X) (h : i < length xs) (is : x ≡ get_or xs i x) where

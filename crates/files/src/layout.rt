@@ -1,6 +1,6 @@
 // The layout of a record, by which it is read and written.
 ghost use Rattle.std.specs.Prelude.{◌≡◌, ◌≤◌, length};
-ghost use Rattle.files.specs.Contents.{bit_map, mark_bit, record_bytes, all_field_bytes};
+ghost use Rattle.files.specs.Contents.{bit_map, mark_bit, record_bytes};
 ghost use Rattle.files.specs.Formats.{fields_of, is_markable, bit_count};
 ghost use Rattle.files.specs.Reading.{size_of};
 ghost use Rattle.files.specs.Writing.{Wrote};
@@ -86,25 +86,17 @@ impl Layout {
         1 + self.fields_size(self.bit_map(item))
     }
 
-    // The item's fields into the front of the place; the answer is how many bytes they take.
-    fn write_fields<R: Record>(self, item: &R, place: &mut [u8]) -> usize
-        requires { length (all_field_bytes (fields_of self.kind self.part) (R.written item.now).values) ≤ length place.old }
-        ensures { Wrote (all_field_bytes (fields_of self.kind self.part) (R.written item.now).values) place.old place.new result }
-    {
-        let values = item.values();
-        let mut count = 0;
-        for (field, value) in self.fields().iter().zip(&values) {
-            count += field.write(*value, &mut place[count..]);
-        }
-        count
-    }
-
     // The item's record into the front of the place; the answer is how many bytes it takes.
     pub(crate) fn write_record<R: Record>(self, item: &R, place: &mut [u8]) -> usize
         requires { length (record_bytes self.kind self.part (R.written item.now)) ≤ length place.old }
         ensures { Wrote (record_bytes self.kind self.part (R.written item.now)) place.old place.new result }
     {
         place[0] = self.bit_map(item);
-        1 + self.write_fields(item, &mut place[1..])
+        let values = item.values();
+        let mut count = 1;
+        for (field, value) in self.fields().iter().zip(&values) {
+            count += field.write(*value, &mut place[count..]);
+        }
+        count
     }
 }

@@ -5,7 +5,7 @@ use Rattle.files.specs.declared.kind.Kind.{Kind}
 use Rattle.files.specs.Contents.{Entry, File}
 use Rattle.files.specs.Exact as files
 use Rattle.files.specs.Parts.{Converts, ValidParts}
-use Rattle.files.proofs.Outcomes.{known_ok}
+pub use Rattle.files.proofs.Outcomes.{known_ok}
 use Rattle.files.proofs.Typed.{parts_read, parts_written}
 use Rattle.formats.specs.Files.{parts_file, read_parts, known_as, ReadExactly}
 

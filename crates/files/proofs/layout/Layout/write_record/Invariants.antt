@@ -1,10 +1,9 @@
 use Rattle.std.proofs.Common.{◌≤◌, length}
 use Rattle.std.specs.Iterator.Adapters.{zip_first, zip_second}
 use Rattle.std.specs.Slice.Iter.{iter_rest}
-use Rattle.files.specs.Contents.{all_field_bytes}
-use Rattle.files.specs.Formats.{fields_of}
+use Rattle.files.specs.Contents.{all_field_bytes, record_bytes}
 use Rattle.files.proofs.WriteSteps.{Begun}
-use Rattle.files.proofs.layout.Layout.write_fields.Given as goal
+use Rattle.files.proofs.layout.Layout.write_record.Given as goal
 
 abbrev pub invariant-loop-field : goal.invariant-loop-field
 invariant-loop-field g l =
@@ -12,5 +11,5 @@ invariant-loop-field g l =
     let vs = iter_rest (zip_second l.field-iterator) in
     record {
       few : length fs ≤ length vs;
-      begun : Begun (all_field_bytes (fields_of l.fn.self.kind l.fn.self.part) (g.R.Record.written l.item).values) (all_field_bytes fs vs) l.initial.place l.place l.count;
+      begun : Begun (record_bytes l.fn.self.kind l.fn.self.part (g.R.Record.written l.item)) (all_field_bytes fs vs) l.fn.place l.place l.count;
     }
