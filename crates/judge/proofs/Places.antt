@@ -1,12 +1,15 @@
 -- The places of the entries that a list carries, one action after another.
-use Rattle.std.proofs.Common.{◌≡◌, ℕ, ◌+◌, ◌<◌, ◌≤◌, List, [], ◌∷◌, ◌++◌, length, get_or, take, drop, set, sym, refl, ap, ◌∙◌, subst, ⊎_elim, arith}
-use Rattle.std.proofs.lemmas.List.{take_more, length_push, length-take-le, get_or_append_left, get_or_push, get_or-set_same, get_or-set_other, get_or-take, drop-set-lt, drop-drop}
+use Rattle.std.proofs.Common.{◌≡◌, ℕ, ◌+◌, ◌<◌, ◌≤◌, List, [], ◌∷◌, ◌++◌, length, get_or, take, drop, set, sym, ap, ◌∙◌, subst, ⊎_elim, arith}
+use Rattle.std.proofs.lemmas.Grind.{get_or-set_at}
+use Rattle.std.proofs.lemmas.List.{take_more, length_push, length-take-le, get_or_append_left, get_or_push, get_or-set_other, get_or-take, drop-set-lt, drop-drop}
 use Rattle.std.proofs.lemmas.List.Sums.{fold_more}
 use Rattle.std.proofs.lemmas.Bool.Decides.{nat_tests}
 use Rattle.std.proofs.lemmas.Bool.{cases_lt}
 use Rattle.plans.specs.Counting.{advance, advance_all}
 use Rattle.plans.proofs.Carrying.{advance_high, advance_low, carries_counted}
 use Rattle.judge.specs.Carried.{CarriedAt, NoneLonger}
+
+ruleset at_set = (get_or-set_at, get_or-set_other)
 
 -- where the count grows, it grows by one, and the action is the next entry
 module _ (log : List ℕ) (k a : ℕ) where
@@ -31,29 +34,12 @@ module _ (log list places : List ℕ) (count a : ℕ) (carried : CarriedAt log l
 
   -- or it carries the next entry
   module _ (room : count < length places) (inside : count < length log) (entry : get_or log count 0 ≡ a) where
-    here : get_or (set places count (length list)) count 0 ≡ length list
-    here = get_or-set_same places count (length list) 0 room
-
-    there : (j : ℕ) → j < count → get_or (set places count (length list)) j 0 ≡ get_or places j 0
-    there j h = get_or-set_other places count j (length list) 0 (omega arith)
-
     pub places_taken : CarriedAt log (list ++ (a ∷ [])) (set places count (length list)) (count + 1)
     places_taken = record {
       few = omega arith;
-      within = λ j h. ⊎_elim
-          (λ l. omega (arith, there j l, carried.within j l, length_push list a))
-          (λ l. let last : j ≡ count = omega arith in omega (arith, ap (λ i. get_or (set places count (length list)) i 0) last, here, length_push list a))
-          (cases_lt j count);
-      same = λ j h. ⊎_elim
-          (λ l. ap (λ p. get_or (list ++ (a ∷ [])) p 0) (there j l) ∙ places_passed.same j l)
-          (λ l.
-          let last : j ≡ count = omega arith in
-          ap (λ p. get_or (list ++ (a ∷ [])) p 0) (ap (λ i. get_or (set places count (length list)) i 0) last ∙ here) ∙ get_or_push list a 0 (length list) refl ∙ sym entry ∙ ap (λ i. get_or log i 0) (sym last))
-          (cases_lt j count);
-      rising = λ i j l h. ⊎_elim
-          (λ m. omega (arith, there i (omega arith), there j m, carried.rising i j l m))
-          (λ m. let last : j ≡ count = omega arith in omega (arith, there i (omega arith), ap (λ n. get_or (set places count (length list)) n 0) last, here, carried.within i (omega arith)))
-          (cases_lt j count);
+      within = λ j h. grind (arith, at_set, length_push, carried.within);
+      same = λ j h. grind (arith, at_set, get_or_append_left, get_or_push, carried.within, carried.same, entry);
+      rising = λ i j l h. grind (arith, at_set, carried.within, carried.rising);
     }
 
 -- the count of carried entries, and why no longer beginning of the log is carried
@@ -104,9 +90,9 @@ module _ (log list before places : List ℕ) (n count grown : ℕ) (followed : F
   followed_passed h =
       let stays : grown ≡ count = omega (arith, advance_high log count (get_or list n 0)) in
       record {
-        carried = subst (λ xs. CarriedAt log xs places grown) (sym longer) (subst (CarriedAt log (take n list ++ (get_or list n 0 ∷ [])) places) (sym stays) (places_passed log (take n list) places count (get_or list n 0) followed.carried));
+        carried = rw (longer, stays) (places_passed log (take n list) places count (get_or list n 0) followed.carried);
         counted = counted;
-        rest = subst (λ k. drop k places ≡ drop k before) (sym stays) followed.rest;
+        rest = rw stays followed.rest;
       }
 
   pub followed_taken : length log ≤ length places → count < grown → Followed log list before (set places count n) (n + 1) grown
@@ -116,9 +102,7 @@ module _ (log list before places : List ℕ) (n count grown : ℕ) (followed : F
       let front : length (take n list) ≡ n = length-take-le n list (omega arith) in
       let taken = places_taken log (take n list) places count (get_or list n 0) followed.carried (omega (arith, more.inside)) more.inside more.entry in
       record {
-        carried = subst (λ xs. CarriedAt log xs (set places count n) grown) (sym longer) (subst (CarriedAt log (take n list ++ (get_or list n 0 ∷ [])) (set places count n)) (sym by_one) (subst (λ m. CarriedAt log (take n list ++ (get_or list n 0 ∷ [])) (set places count m) (count + 1)) front taken));
+        carried = rw (longer, by_one) (subst (λ m. CarriedAt log (take n list ++ (get_or list n 0 ∷ [])) (set places count m) (count + 1)) front taken);
         counted = counted;
-        rest =
-            let kept : drop (count + 1) (set places count n) ≡ drop (count + 1) before = drop-set-lt (count + 1) places count n (omega arith) ∙ sym (drop-drop 1 count places) ∙ ap (drop 1) followed.rest ∙ drop-drop 1 count before in
-            subst (λ k. drop k (set places count n) ≡ drop k before) (sym by_one) kept;
+        rest = rw by_one (drop-set-lt (count + 1) places count n (omega arith) ∙ sym (drop-drop 1 count places) ∙ ap (drop 1) followed.rest ∙ drop-drop 1 count before);
       }

@@ -1,5 +1,5 @@
 -- The first actions of a list, run one after another from the start.
-use Rattle.std.proofs.Common.{◌≡◌, ℕ, ◌+◌, ◌*◌, ◌<◌, ◌≤◌, true, List, [], ◌∷◌, ◌++◌, length, get_or, take, sym, ap, ◌∙◌, subst, arith}
+use Rattle.std.proofs.Common.{◌≡◌, ℕ, ◌+◌, ◌*◌, ◌<◌, ◌≤◌, true, List, [], ◌∷◌, ◌++◌, length, get_or, take, sym, ap, ◌∙◌, arith}
 use Rattle.std.proofs.lemmas.List.{take_more}
 use Rattle.std.proofs.lemmas.List.Sums.{fold_more}
 use Rattle.domain.specs.Meaning.{Meaning}
@@ -21,8 +21,8 @@ module _ (d : Meaning) (list : List ℕ) (n state cost : ℕ) (ran : Ran d list 
       let front = take n list in
       let grown : take (n + 1) list ≡ front ++ (a ∷ []) = take_more list n 0 inside in
       record {
-        runs = subst (RunsAll d d.start) (sym grown) (runs_append d front (a ∷ []) d.start ran.runs (ap (λ s. d.runs s a) (sym ran.last) ∙ can, tt));
+        runs = rw grown (runs_append d front (a ∷ []) d.start ran.runs (rw (sym ran.last) can, tt));
         last = is-next ∙ ap (λ s. d.next s a) ran.last ∙ sym (fold_more d.next d.start list n 0 inside);
-        costs = sym (ap (cost_of d) grown ∙ cost_append d front (a ∷ []) ∙ omega (arith, ran.costs));
+        costs = rw grown (omega (arith, cost_append d front (a ∷ []), ran.costs));
         low = omega (arith, ran.low);
       }

@@ -1,5 +1,6 @@
 -- A list of actions carries a log, by a strictly rising choice of places, exactly when the count of carried entries comes to the log's length.
-use Rattle.std.proofs.Common.{◌≡◌, ℕ, zero, suc, ◌+◌, ◌-◌, ◌<◌, ◌≤◌, List, [], ◌∷◌, length, get_or, drop, sym, refl, ap, ◌∙◌, subst, ⊎_elim, arith}
+use Rattle.std.proofs.Common.{◌≡◌, ℕ, zero, suc, ◌+◌, ◌-◌, ◌<◌, ◌≤◌, List, [], ◌∷◌, length, get_or, drop, sym, refl, ap, ◌∙◌, ⊎_elim, arith}
+use Rattle.std.proofs.lemmas.Grind.{get_or_tail}
 use Rattle.std.proofs.lemmas.List.{drop_all, drop_more, length-drop}
 use Rattle.std.proofs.lemmas.Bool.Decides.{nat_tests}
 use Rattle.std.proofs.lemmas.Bool.{cases_lt, cases_eq}
@@ -41,17 +42,13 @@ carries_skip a log plan c = record {
 }
 
 -- and back: with the first entry at the front, or with nothing at the front
-front_place : (a n : ℕ) (plan : List ℕ) → 0 < n → get_or (a ∷ plan) n 0 ≡ get_or plan (n - 1) 0
-front_place a zero plan h = absurd (omega arith)
-front_place a (suc n) plan h = ap (λ m. get_or plan m 0) (omega arith)
-
 unfirst : (x a : ℕ) (log plan : List ℕ) → Carries (x ∷ log) (a ∷ plan) → Carries log plan
 unfirst x a log plan c =
     let late : (j : ℕ) → j < length log → 0 < c.place (suc j) = λ j h. omega (arith, c.rising 0 (suc j) (omega arith) (omega arith)) in
     record {
       place = λ j. c.place (suc j) - 1;
       within = λ j h. omega (arith, c.within (suc j) (omega arith), late j h);
-      same = λ j h. sym (front_place a (c.place (suc j)) plan (late j h)) ∙ c.same (suc j) (omega arith);
+      same = λ j h. sym (get_or_tail a plan (c.place (suc j)) 0 (late j h)) ∙ c.same (suc j) (omega arith);
       rising = λ i j l h. omega (arith, c.rising (suc i) (suc j) (omega arith) (omega arith), late i (omega arith));
     }
 
@@ -68,7 +65,7 @@ unskip x a log plan other c =
     record {
       place = λ j. c.place j - 1;
       within = λ j h. omega (arith, c.within j h, late j h);
-      same = λ j h. sym (front_place a (c.place j) plan (late j h)) ∙ c.same j h;
+      same = λ j h. sym (get_or_tail a plan (c.place j) 0 (late j h)) ∙ c.same j h;
       rising = λ i j l h. omega (arith, c.rising i j l h, late i (omega arith));
     }
 
@@ -91,16 +88,16 @@ module _ (log : List ℕ) (k a : ℕ) where
 
 -- a count that comes to the end tells the places
 pub counted_carries : (log plan : List ℕ) (k : ℕ) → k ≤ length log → advance_all log k plan ≡ length log → Carries (drop k log) plan
-counted_carries log [] k h e = subst (λ l. Carries l []) (sym (drop_all k log (omega arith))) (carries_none [])
+counted_carries log [] k h e = rw (drop_all k log (omega arith)) (carries_none [])
 counted_carries log (a ∷ plan) k h e =
     ⊎_elim
     (λ l. ⊎_elim
     (λ same.
     let next : advance_all log (k + 1) plan ≡ length log = ap (λ n. advance_all log n plan) (sym (grows log k a l same)) ∙ e in
-    subst (λ xs. Carries xs (a ∷ plan)) (ap (λ x. x ∷ drop (k + 1) log) (sym same) ∙ sym (drop_more log k 0 l)) (carries_first a (drop (k + 1) log) plan (counted_carries log plan (k + 1) (omega arith) next)))
+    rw (drop_more log k 0 l, same) (carries_first a (drop (k + 1) log) plan (counted_carries log plan (k + 1) (omega arith) next)))
     (λ other. carries_skip a (drop k log) plan (counted_carries log plan k h (ap (λ n. advance_all log n plan) (sym (stays log k a l other)) ∙ e)))
     (cases_eq (get_or log k 0) a))
-    (λ l. subst (λ xs. Carries xs (a ∷ plan)) (sym (drop_all k log l)) (carries_none (a ∷ plan)))
+    (λ l. rw (drop_all k log l) (carries_none (a ∷ plan)))
     (cases_lt k (length log))
 
 -- and places tell that the count comes to the end
@@ -113,10 +110,10 @@ carries_counted log [] k h c =
 carries_counted log (a ∷ plan) k h c =
     ⊎_elim
     (λ l.
-    let front : Carries (get_or log k 0 ∷ drop (k + 1) log) (a ∷ plan) = subst (λ xs. Carries xs (a ∷ plan)) (drop_more log k 0 l) c in
+    let front : Carries (get_or log k 0 ∷ drop (k + 1) log) (a ∷ plan) = rw (sym (drop_more log k 0 l)) c in
     ⊎_elim
-    (λ same. ap (λ n. advance_all log n plan) (grows log k a l same) ∙ carries_counted log plan (k + 1) (omega arith) (unfirst (get_or log k 0) a (drop (k + 1) log) plan front))
-    (λ other. ap (λ n. advance_all log n plan) (stays log k a l other) ∙ carries_counted log plan k h (subst (λ xs. Carries xs plan) (sym (drop_more log k 0 l)) (unskip (get_or log k 0) a (drop (k + 1) log) plan other front)))
+    (λ same. rw (grows log k a l same) (carries_counted log plan (k + 1) (omega arith) (unfirst (get_or log k 0) a (drop (k + 1) log) plan front)))
+    (λ other. rw (stays log k a l other) (carries_counted log plan k h (rw (drop_more log k 0 l) (unskip (get_or log k 0) a (drop (k + 1) log) plan other front))))
     (cases_eq (get_or log k 0) a))
-    (λ l. ap (λ n. advance_all log n plan) (ended log k a l) ∙ carries_counted log plan k h (subst (λ xs. Carries xs plan) (sym (drop_all k log l)) (carries_none plan)))
+    (λ l. rw (ended log k a l) (carries_counted log plan k h (rw (drop_all k log l) (carries_none plan))))
     (cases_lt k (length log))

@@ -1,16 +1,10 @@
 -- The verdict on two least costs is right.
-use Rattle.std.proofs.Common.{◌≡◌, ℕ, ◌≤◌, Bool, true, false, cond, eqb, List, Some, None, Option, sym, refl, subst, arith}
-use Rattle.std.proofs.lemmas.Bool.{eqb-true, eq-eqb, cond-true}
-use Rattle.plans.specs.declared.verdict.Verdict.{Verdict}
-use Rattle.plans.specs.declared.verdict.Verdict.TheVariants as verdict
+use Rattle.std.proofs.Common.{◌≡◌, ℕ, ◌≤◌, List, Some, None, Option, subst, arith}
+use Rattle.std.proofs.lemmas.Bool.Decides.{nat_tests}
 use Rattle.plans.specs.Logs.{Admitted, Whole, Stands}
 use Rattle.domain.specs.Meaning.{Meaning}
 use Rattle.plans.specs.Plans.{cost_of, LeastCost}
 use Rattle.plans.specs.Verdicts.{verdict_of, JudgesRightly}
-
-equal_if : (b : Bool) → ◌≡◌ {A = Verdict} (cond b verdict.Stands verdict.CostsMore) verdict.Stands → b ≡ true
-equal_if true e = refl
-equal_if false e = cc
 
 module _ (d : Meaning) (log : List ℕ) (g : ℕ) where
   -- equal least costs: a cheapest whole plan is a cheapest admitted one
@@ -47,6 +41,6 @@ judges_rightly (Some c) None = record {
   is_so = λ d log g one two s. absurd (two s.0 s.1.1);
 }
 judges_rightly (Some c) (Some e) = record {
-  says_so = λ d log g one two v. equal_stands d log g c one (subst (λ n. LeastCost d (Whole d log g) (Some n)) (sym (eqb-true c e (equal_if (eqb c e) v))) two);
-  is_so = λ d log g one two s. cond-true _ _ _ (eq-eqb c e (stands_equal d log g c e one two s));
+  says_so = λ d log g one two v. equal_stands d log g c one (let same : e ≡ c = grind (arith, nat_tests) in subst (λ n. LeastCost d (Whole d log g) (Some n)) same two);
+  is_so = λ d log g one two s. (let same : c ≡ e = stands_equal d log g c e one two s in grind (arith, nat_tests));
 }
