@@ -5,8 +5,7 @@ use Rattle.plans.specs.Laws.{Watchable}
 use Rattle.plans.specs.Logs.{Admitted, Whole}
 use Rattle.plans.specs.Plans.{cost_of, PlanFor, CompletePlan, Cheapest, LeastCost}
 use Rattle.plans.specs.Watched.{watched}
-use Rattle.plans.proofs.Completing.{whole_of_complete, complete_of_whole}
-use Rattle.plans.proofs.Watching.{plan_laws}
+use Rattle.plans.proofs.Watching.{plan_laws, whole_laws}
 
 -- a log changes no cost
 pub watched_cost : (d : Meaning) (log plan : List ℕ) → cost_of (watched d log) plan ≡ cost_of d plan
@@ -27,4 +26,4 @@ module _ (d : Meaning) (log : List ℕ) (ok : Watchable d log) (g : ℕ) where
   least_admitted = least_over (watched d log) d (watched_cost d log) (PlanFor (watched d log) g) (Admitted d log g) ((plan_laws d log ok).plan_admitted g) ((plan_laws d log ok).admitted_plan g)
 
   pub least_whole : (c : Option ℕ) → LeastCost (watched d log) (CompletePlan (watched d log) g) c → LeastCost d (Whole d log g) c
-  least_whole = least_over (watched d log) d (watched_cost d log) (CompletePlan (watched d log) g) (Whole d log g) (whole_of_complete d log ok g) (complete_of_whole d log ok g)
+  least_whole = least_over (watched d log) d (watched_cost d log) (CompletePlan (watched d log) g) (Whole d log g) ((whole_laws d log ok).complete_whole g) ((whole_laws d log ok).whole_complete g)

@@ -1,5 +1,4 @@
 pub mod Carrying
-pub mod Completing
 pub mod Judging
 pub mod LeastCosts
 pub mod Marks

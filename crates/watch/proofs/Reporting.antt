@@ -15,8 +15,8 @@ use Rattle.plans.specs.Verdicts.{verdict_of}
 use Rattle.plans.specs.Watched.{watched}
 use Rattle.plans.proofs.Judging.{judges_rightly}
 use Rattle.plans.proofs.LeastCosts.{watched_cost, cheapest_over, least_admitted, least_whole}
-use Rattle.plans.proofs.Completing.{whole_of_complete, complete_of_whole, below_of_complete, complete_of_below}
-use Rattle.plans.proofs.Watching.{plan_laws}
+use Rattle.plans.proofs.Stacking.{stack_laws}
+use Rattle.plans.proofs.Watching.{plan_laws, whole_laws}
 use Rattle.search.specs.Answers.{Sizes, ShownKind, Accepted}
 use Rattle.watch.specs.Book.{log_after, book_from, book}
 use Rattle.watch.specs.Calls.{Call, Report, Event, note, retract, report}
@@ -51,7 +51,7 @@ module _ (d : Meaning) (log : List ℕ) (ok : Watchable d log) (g : ℕ) where
   planned_cheapest = cheapest_over d (watched d log) (λ plan. sym (watched_cost d log plan)) (Admitted d log g) (PlanFor (watched d log) g) ((plan_laws d log ok).admitted_plan g) ((plan_laws d log ok).plan_admitted g)
 
   whole_cheapest : (plan : List ℕ) → Cheapest (watched d log) (CompletePlan (watched d log) g) plan → Cheapest d (Whole d log g) plan
-  whole_cheapest = cheapest_over (watched d log) d (watched_cost d log) (CompletePlan (watched d log) g) (Whole d log g) (whole_of_complete d log ok g) (complete_of_whole d log ok g)
+  whole_cheapest = cheapest_over (watched d log) d (watched_cost d log) (CompletePlan (watched d log) g) (Whole d log g) ((whole_laws d log ok).complete_whole g) ((whole_laws d log ok).whole_complete g)
 
   -- the plan shown, by the verdict on the costs
   stands_if : (c e : ℕ) (b : Bool) (plan : List ℕ) → eqb c e ≡ b → LeastCost d (Admitted d log g) (Some c) → Cheapest d (Whole d log g) plan → cost_of d plan ≡ e → ShownBy d log g (cond b verdicts.Stands verdicts.CostsMore) plan
@@ -75,10 +75,10 @@ module _ (d : Meaning) (log : List ℕ) (ok : Watchable d log) (g : ℕ) where
     top = ap (λ m. watched m log) is
 
     whole_down : (plan : List ℕ) → Whole d log g plan → WholeBelow b (log ∷ logs) g plan
-    whole_down plan w = below_of_complete b (log ∷ logs) both g plan (subst (λ m. CompletePlan m g plan) top (complete_of_whole d log ok g plan w))
+    whole_down plan w = (stack_laws b (log ∷ logs) both).complete_whole g plan (subst (λ m. CompletePlan m g plan) top ((whole_laws d log ok).whole_complete g plan w))
 
     whole_up : (plan : List ℕ) → WholeBelow b (log ∷ logs) g plan → Whole d log g plan
-    whole_up plan w = whole_of_complete d log ok g plan (subst (λ m. CompletePlan m g plan) (sym top) (complete_of_below b (log ∷ logs) both g plan w))
+    whole_up plan w = (whole_laws d log ok).complete_whole g plan (subst (λ m. CompletePlan m g plan) (sym top) ((stack_laws b (log ∷ logs) both).whole_complete g plan w))
 
     cheapest_down : (plan : List ℕ) → Cheapest d (Admitted d log g) plan → Cheapest (stack b (log ∷ logs)) (PlanFor (stack b (log ∷ logs)) g) plan
     cheapest_down plan c = subst (λ m. Cheapest m (PlanFor m g) plan) top (planned_cheapest plan c)
