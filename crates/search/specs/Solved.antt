@@ -3,6 +3,7 @@ use Rattle.std.specs.Prelude.{◌≡◌, ℕ, ◌<◌, ◌≤◌, Bool, true, fa
 use Rattle.domain.specs.Meaning.{Meaning}
 use Rattle.plans.specs.Plans.{after, RunsAll, cost_of}
 use Rattle.table.specs.declared.row.Node.{Node}
+use Rattle.table.specs.declared.row.Row.{Row}
 use Rattle.table.specs.Rows.{node}
 use Rattle.search.specs.Answers.{RepeatsNone}
 use Rattle.search.specs.Searching.{Stage, Searching}
@@ -41,6 +42,13 @@ pub record PathTo (m : Meaning) (v : Node) (plan : List ℕ) : Type 0 where
   pub runs : RunsAll m m.start plan
   pub state : after m m.start plan ≡ v.state
   pub cost : cost_of m plan ≡ v.cost
+
+-- the first n rows are a finished table, and the way to row i fits the place
+pub record Writable (m : Meaning) (n : ℕ) (rows : List Row) (i : ℕ) (place : List ℕ) : Type 0 where
+  pub solved : Solved m (node rows) n
+  pub row : i < n
+  pub few : n ≤ length rows
+  pub fits : n ≤ length place
 
 -- the way to a node stands in the front of a place, and the rest of the place stays
 pub record Written (m : Meaning) (v : Node) (before after : List ℕ) (len : ℕ) : Type 0 where

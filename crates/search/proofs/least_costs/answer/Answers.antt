@@ -17,7 +17,7 @@ returns-in-Some g c =
     let ends = c.cheapest_ends-without.ensures in
     let is = sym c.or.ensures ∙ c.in-Some.is in
     let low = shown_low m limits f n solved goal before _ _ row is ends.without ends.with in
-    let found = found_shown m limits f n solved goal before _ _ row _ _ is ends.without ends.with (c.write_plan-length.ensures m n solved low) in
+    let found = found_shown m limits f n solved goal before _ _ row _ _ is ends.without ends.with (c.write_plan-length.ensures m n (record { solved = solved; row = low; few = c.requires.1.0; fits = c.requires.1.1 })) in
     found_same m goal n _ _ _ _ before c.write_plan-length.new.plan c.write_plan-length.result (search rules) (search rules) found
 
 pub returns-in-None : goal.returns-in-None
