@@ -1,7 +1,6 @@
 -- A list of calls, one after another.
-use Rattle.std.proofs.Common.{◌≡◌, ℕ, ◌≤◌, min, List, ◌++◌, length, take, Ok, Err, Option, Result, refl, ap, arith}
+use Rattle.std.proofs.Common.{◌≡◌, ℕ, ◌≤◌, min, List, ◌++◌, length, take, Option, Result, arith}
 use Rattle.std.proofs.lemmas.Grind.{common_steps}
-use lib.Seq.{take-append-le}
 use Rattle.board.specs.declared.row.BoardRow.{BoardRow}
 use Rattle.domain.specs.Meaning.{Meaning}
 use Rattle.search.specs.Answers.{Sizes}
@@ -15,16 +14,11 @@ use Rattle.watch.specs.Runs.{Then}
 
 -- the plan stands in the part of the place that the report was handed
 answer_front : (m : Meaning) (goal : ℕ) (s : Sizes) (before part post : List ℕ) (r : Result report.Report WatchFault) → s.places ≤ length part → Reported m goal s before part r → report_answer (part ++ post) r ≡ report_answer part r
-answer_front m goal s before part post (Ok r) fits told =
-    ap (λ plan. Ok (record { verdict = r.verdict; without = r.without; with = r.with; plan = plan })) (take-append-le r.length part post (omega (arith, told.0.found.shown.short, told.0.suited.places)))
-answer_front m goal s before part post (Err fault) fits told = refl
+answer_front m goal s before part post r fits told = grind (arith, common_steps)
 
--- the front of a place, as long as is asked for where the place has that much
-cut_length : {X : Type 0} (xs : List X) (asked k : ℕ) → k ≡ min asked (length xs) → length (take k xs) ≡ min asked (length xs)
-cut_length xs asked k e = grind (arith, common_steps)
-
+-- the fronts of the places, as long as is asked for where the places have that much
 pub sizes_cut : {X Y : Type 0} (table : List X) (waiting : List Y) (plan : List ℕ) (q : Request) (a b c : ℕ) → a ≡ min q.rows (length table) → b ≡ min q.waiting (length waiting) → c ≡ min q.places (length plan) → calls.sizes_of (take a table) (take b waiting) (take c plan) ≡ cut_to (calls.sizes_of table waiting plan) q
-sizes_cut table waiting plan q a b c e f g = λ i. record { rows = cut_length table q.rows a e i; waiting = cut_length waiting q.waiting b f i; places = cut_length plan q.places c g i }
+sizes_cut table waiting plan q a b c e f g = grind (arith, common_steps)
 
 module _ (d m : Meaning) (log log' : List ℕ) (rows rows' : List BoardRow) (goal : ℕ) (s t : Sizes) (before part post : List ℕ) (r : Result report.Report WatchFault) (answer : Result (Option report.Report) WatchFault) where
   -- a report on parts of the places that are lent

@@ -1,9 +1,6 @@
 -- What the search answers on a watched domain, in the words of the domain below.
-use Rattle.std.proofs.Common.{◌≡◌, ℕ, ◌-◌, Bool, true, false, cond, eqb, ltb, leb, List, [], ◌∷◌, ◌++◌, length, take, is_ok, Some, None, Ok, Err, Option, sym, refl, ap, ◌∙◌, subst, arith}
+use Rattle.std.proofs.Common.{◌≡◌, ℕ, List, [], ◌∷◌, take, Some, None, Option, sym, refl, ap, ◌∙◌, subst, arith}
 use Rattle.std.proofs.lemmas.Grind.{common_steps}
-use Rattle.std.proofs.lemmas.List.{length-take}
-use Rattle.std.proofs.lemmas.Bool.{eqb-true}
-use Rattle.domain.specs.declared.fault.LogFault.TheVariants.{Action, Width, Full}
 use Rattle.domain.specs.Meaning.{Meaning, Limits}
 use Rattle.plans.specs.declared.verdict.Verdict.{Verdict}
 use Rattle.plans.specs.declared.verdict.Verdict.TheVariants as verdicts
@@ -19,21 +16,12 @@ use Rattle.plans.proofs.Stacking.{stack_laws}
 use Rattle.plans.proofs.Watching.{plan_laws, whole_laws}
 use Rattle.search.specs.Answers.{Sizes, ShownKind, Accepted}
 use Rattle.watch.specs.Book.{log_after, book_from, book}
-use Rattle.watch.specs.Calls.{Call, Report, Event, note, retract, report}
+use Rattle.watch.specs.Calls.{Call, Report, Event}
 use Rattle.watch.specs.Reports.{ShownBy, RightBelow, RightReport}
 
 -- The log of a book can be watched: it has at most 20 entries, and none over a width above 55.
-note_if : (d : Meaning) (log : List ℕ) (a : ℕ) (x y z : Bool) → ltb a d.actions ≡ x → leb d.width 55 ≡ y → ltb (length log) 20 ≡ z → Watchable d log → Watchable d (cond (is_ok {T = Unit {0}} (cond x (cond y (cond z (Ok tt) (Err Full)) (Err Width)) (Err Action))) (log ++ (a ∷ [])) log)
-note_if d log a x y z e f g ok = grind (arith, common_steps)
-
 watchable_after : (d : Meaning) (log : List ℕ) (c : Call) → Watchable d log → Watchable d (log_after d log c)
-watchable_after d log (note a) ok = note_if d log a (ltb a d.actions) (leb d.width 55) (ltb (length log) 20) refl refl refl ok
-watchable_after d log retract ok = record {
-  limits = ok.limits;
-  few = omega (arith, ok.few, length-take (length log - 1) log);
-  wide = λ h. ap (λ l. take (length l - 1) l) (ok.wide h);
-}
-watchable_after d log (report goal sizes) ok = ok
+watchable_after d log c ok = grind (arith, common_steps)
 
 watchable_from : (d : Meaning) (log : List ℕ) (run : List Event) → Watchable d log → Watchable d (book_from d log run)
 watchable_from d log [] ok = ok
@@ -54,17 +42,14 @@ module _ (d : Meaning) (log : List ℕ) (ok : Watchable d log) (g : ℕ) where
   whole_cheapest = cheapest_over (watched d log) d (watched_cost d log) (CompletePlan (watched d log) g) (Whole d log g) ((whole_laws d log ok).complete_whole g) ((whole_laws d log ok).whole_complete g)
 
   -- the plan shown, by the verdict on the costs
-  stands_if : (c e : ℕ) (b : Bool) (plan : List ℕ) → eqb c e ≡ b → LeastCost d (Admitted d log g) (Some c) → Cheapest d (Whole d log g) plan → cost_of d plan ≡ e → ShownBy d log g (cond b verdicts.Stands verdicts.CostsMore) plan
-  stands_if c e true plan k one two cost =
-      let same : c ≡ e = eqb-true c e k in
-      (record { of_kind = two.of_kind.admitted; least = λ other a. omega (arith, same, cost, one.1.1, one.1.0.least other a) }, two.of_kind)
-  stands_if c e false plan k one two cost = two
+  both_shown : (c e : ℕ) (plan : List ℕ) → LeastCost d (Admitted d log g) (Some c) → Cheapest d (Whole d log g) plan → cost_of d plan ≡ e → ShownBy d log g (verdict_of (Some c) (Some e)) plan
+  both_shown c e plan one two cost = grind (arith, common_steps)
 
   shown_by : (without with : Option ℕ) (plan : List ℕ) → LeastCost d (Admitted d log g) without → ShownKind (watched d log) g without with plan → ShownBy d log g (verdict_of without with) plan
   shown_by None None plan one kind = kind
   shown_by None (Some e) plan one kind = absurd (one plan (whole_cheapest plan kind.0).of_kind.admitted)
   shown_by (Some c) None plan one kind = admitted_cheapest plan kind.0
-  shown_by (Some c) (Some e) plan one kind = stands_if c e (eqb c e) plan refl one (whole_cheapest plan kind.0) (sym (watched_cost d log plan) ∙ kind.1)
+  shown_by (Some c) (Some e) plan one kind = both_shown c e plan one (whole_cheapest plan kind.0) (sym (watched_cost d log plan) ∙ kind.1)
 
   -- in the words of the domain at the bottom of a stack
   module _ (b : Meaning) (logs : List (List ℕ)) (is : d ≡ stack b logs) (below : Stackable b logs) where

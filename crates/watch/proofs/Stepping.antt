@@ -1,40 +1,37 @@
 -- One call more: the law of a run is carried on.
-use Rattle.std.proofs.Common.{◌≡◌, ℕ, ◌<◌, Bool, false, cond, ltb, List, [], ◌∷◌, ◌++◌, length, get_or, take, replicate, is_ok, Ok, Err, Option, Result, sym, refl, ap, ◌∙◌, ⊎_elim, append_assoc, arith}
-use Rattle.std.proofs.lemmas.List.{get_or-replicate, get_or-set_same, get_or-set_other, take_all}
-use Rattle.std.proofs.lemmas.Bool.{cases_eq, cond-false, ltb-false}
+use Rattle.std.proofs.Common.{◌≡◌, ℕ, ◌<◌, List, [], ◌∷◌, ◌++◌, length, get_or, replicate, Ok, Err, Option, sym, refl, ap, ◌∙◌, ⊎_elim, append_assoc, arith}
+use Rattle.std.proofs.lemmas.Grind.{common_steps}
+use Rattle.std.proofs.lemmas.List.{get_or-replicate, get_or-set_same, get_or-set_other}
+use Rattle.std.proofs.lemmas.Bool.{cases_eq}
 use Rattle.board.specs.declared.row.BoardRow.{BoardRow}
 use Rattle.board.specs.Rows.{open_row, judged_row}
-use Rattle.domain.specs.declared.fault.LogFault.TheVariants.{Empty}
-use Rattle.domain.specs.Faults.{log_number}
 use Rattle.domain.specs.Meaning.{Meaning}
 use Rattle.plans.specs.Logs.{Admitted, Whole}
 use Rattle.plans.specs.Plans.{LeastCost}
-use Rattle.watched.specs.Noting.{add_outcome}
 use Rattle.watch.specs.Book.{log_after, book_from, book}
 use Rattle.watch.specs.Calls.{Event, note, retract, report}
-use Rattle.watch.specs.Reports.{numbered, Right}
+use Rattle.watch.specs.Reports.{Right}
 use Rattle.watch.specs.Runs.{ReportsOn, ChangesLog, Occurs, LogChanges, NotReported, RowTells, Ran, RowsAfter}
-
--- Where an event stands in a run that has one more at the end: it is the last, or stands in the run.
-pub data Split (run before : List Event) (e x : Event) (later : List Event) : Type 0 where
-  at_end : before ≡ run → x ≡ e → later ≡ [] → Split run before e x later
-  within : (rest : List Event) → later ≡ rest ++ (e ∷ []) → run ≡ before ++ (x ∷ rest) → Split run before e x later
 
 nonempty : {C : Type 0} (xs : List Event) (x : Event) (ys : List Event) → [] ≡ xs ++ (x ∷ ys) → C
 nonempty [] x ys e = cc
 nonempty (y ∷ xs) x ys e = cc
 
-split : (run before : List Event) (e x : Event) (later : List Event) → run ++ (e ∷ []) ≡ before ++ (x ∷ later) → Split run before e x later
-split [] [] e x later p = at_end refl (cc) (cc)
-split [] (b ∷ before) e x later p = nonempty before x later (cc)
-split (r ∷ run) [] e x later p = within run (cc) (cc)
-split (r ∷ run) (b ∷ before) e x later p = more (split run before e x later (cc))
-  where
-    more : Split run before e x later → Split (r ∷ run) (b ∷ before) e x later
-    more (at_end s t u) = at_end (cc) t u
-    more (within rest s t) = within rest s (cc)
+-- What holds of an event at the end of a run, and of those that stand in the run, holds of each where the run has the event.
+at_each : (run : List Event) (e : Event) (P : List Event → Event → List Event → Type 0) → P run e [] → ((before : List Event) (x : Event) (rest : List Event) → Occurs run before x rest → P before x (rest ++ (e ∷ []))) → (before : List Event) (x : Event) (later : List Event) → Occurs (run ++ (e ∷ [])) before x later → P before x later
+at_each [] e P last within [] x later o =
+    let same : x ≡ e = cc in
+    let none : later ≡ [] = cc in
+    rw (same, none) last
+at_each [] e P last within (b ∷ before) x later o = nonempty before x later (cc)
+at_each (r ∷ run) e P last within [] x later o =
+    let rest : later ≡ run ++ (e ∷ []) = cc in
+    rw rest (within [] x run (record { is = cc }))
+at_each (r ∷ run) e P last within (b ∷ before) x later o =
+    let first : b ≡ r = cc in
+    rw first (at_each run e (λ shorter. P (r ∷ shorter)) last (λ shorter y rest i. within (r ∷ shorter) y rest (record { is = ap (λ h. r ∷ h) i.is })) before x later (record { is = cc }))
 
--- and the other way round
+-- an event of a run stands in the run with one more at the end
 occurs_more : (run before : List Event) (e x : Event) (later : List Event) → Occurs run before x later → Occurs (run ++ (e ∷ [])) before x (later ++ (e ∷ []))
 occurs_more run before e x later o = record { is = ap (λ h. h ++ (e ∷ [])) o.is ∙ append_assoc before (x ∷ later) (e ∷ []) }
 
@@ -51,11 +48,7 @@ changes_last : (later : List Event) (e : Event) → ChangesLog e → LogChanges 
 changes_last later e c = (later, (e, ([], (record { is = refl }, c))))
 
 changes_fewer : (later : List Event) (e : Event) → (ChangesLog e → ⊥) → LogChanges (later ++ (e ∷ [])) → LogChanges later
-changes_fewer later e never (before, (x, (rest, (o, c)))) = go (split later before e x rest o.is)
-  where
-    go : Split later before e x rest → LogChanges later
-    go (at_end s t u) = absurd (never (rw t at c))
-    go (within more s t) = (before, (x, (more, (record { is = t }, c))))
+changes_fewer later e never (before, (x, (rest, (o, c)))) = at_each later e (λ b y r. ChangesLog y → LogChanges later) (λ k. absurd (never k)) (λ b y r i k. (b, (y, (r, (i, k))))) before x rest o c
 
 changes_none : LogChanges [] → ⊥
 changes_none (before, (x, (rest, (o, c)))) = nonempty before x rest o.is
@@ -64,19 +57,11 @@ changes_none (before, (x, (rest, (o, c)))) = nonempty before x rest o.is
 module _ (run : List Event) (e : Event) (g : ℕ) where
   -- the log changed just now
   reported_changed : ChangesLog e → (ReportsOn g e → ⊥) → NotReported (run ++ (e ∷ [])) g
-  reported_changed c never before x later o r = go (split run before e x later o.is)
-    where
-      go : Split run before e x later → LogChanges later
-      go (at_end s t u) = absurd (never (rw t at r))
-      go (within rest s t) = rw s (changes_last rest e c)
+  reported_changed c never = at_each run e (λ before x later. ReportsOn g x → LogChanges later) (λ r. absurd (never r)) (λ before x rest o r. changes_last rest e c)
 
   -- nothing that matters to the goal happened
   reported_same : (ReportsOn g e → ⊥) → NotReported run g → NotReported (run ++ (e ∷ [])) g
-  reported_same never n before x later o r = go (split run before e x later o.is)
-    where
-      go : Split run before e x later → LogChanges later
-      go (at_end s t u) = absurd (never (rw t at r))
-      go (within rest s t) = rw s (changes_more rest e (n before x rest (record { is = t }) r))
+  reported_same never n = at_each run e (λ before x later. ReportsOn g x → LogChanges later) (λ r. absurd (never r)) (λ before x rest o r. changes_more rest e (n before x rest o r))
 
   reported_before : (ChangesLog e → ⊥) → NotReported (run ++ (e ∷ [])) g → NotReported run g
   reported_before never n before x later o r = changes_fewer later e never (n before x (later ++ (e ∷ [])) (occurs_more run before e x later o) r)
@@ -88,18 +73,10 @@ module _ (run : List Event) (e : Event) (g : ℕ) where
 -- How a row goes on.
 module _ (d : Meaning) (run : List Event) (e : Event) (log' : List ℕ) (g : ℕ) (row' : BoardRow) where
   row_opens : ChangesLog e → (ReportsOn g e → ⊥) → row' ≡ open_row → RowTells d (run ++ (e ∷ [])) log' g row'
-  row_opens c never is = record {
-    open_so = λ _. reported_changed run e g c never;
-    so_open = λ _. is;
-    judged = λ v k. let h = rw is at k in cc;
-  }
+  row_opens c never is = let changed = reported_changed run e g c never in grind arith
 
   row_judged : ReportsOn g e → (without with : Option ℕ) → row' ≡ judged_row without with → g < d.goals → LeastCost d (Admitted d log' g) without → LeastCost d (Whole d log' g) with → RowTells d (run ++ (e ∷ [])) log' g row'
-  row_judged r without with is goal one two = rw is (record {
-    open_so = λ k. cc;
-    so_open = λ n. absurd (reported_now run e g r n);
-    judged = λ v k. record { is_goal = goal; without = one; with = two; verdict = cc };
-  })
+  row_judged r without with is goal one two = let now = reported_now run e g r in grind arith
 
   row_stays : (log : List ℕ) (row : BoardRow) → (ChangesLog e → ⊥) → (ReportsOn g e → ⊥) → log' ≡ log → row' ≡ row → RowTells d run log g row → RowTells d (run ++ (e ∷ [])) log' g row'
   row_stays log row unchanged never same is t = rw (same, is) (record {
@@ -109,19 +86,11 @@ module _ (d : Meaning) (run : List Event) (e : Event) (log' : List ℕ) (g : ℕ
   })
 
 -- A refusal leaves the log.
-refused_so : {X F : Type 0} (number : F → ℕ) (r : Result X F) (n : ℕ) → ◌≡◌ {A = Result X ℕ} (Err n) (numbered number r) → is_ok r ≡ false
-refused_so number r n e = grind arith
-
 note_refused : (d : Meaning) (log : List ℕ) (a n : ℕ) → Right d log (note a, Err n) → log_after d log (note a) ≡ log
-note_refused d log a n r = cond-false (is_ok (add_outcome d log a)) _ log (refused_so log_number (add_outcome d log a) n r)
-
-drop_if : (b : Bool) (n : ℕ) → ◌≡◌ {A = Result (Unit {0}) ℕ} (Err n) (numbered log_number (cond b (Ok tt) (Err Empty))) → b ≡ false
-drop_if b n e = grind arith
+note_refused d log a n r = grind arith
 
 retract_refused : (d : Meaning) (log : List ℕ) (n : ℕ) → Right d log (retract, Err n) → log_after d log retract ≡ log
-retract_refused d log n r =
-    let none : length log ≡ 0 = omega (arith, ltb-false 0 (length log) (drop_if (ltb 0 (length log)) n r)) in
-    ap (λ k. take k log) (omega (arith, none)) ∙ take_all (length log) log (omega arith)
+retract_refused d log n r = grind (arith, common_steps)
 
 module _ (d : Meaning) (run : List Event) (log log' : List ℕ) (rows rows' : List BoardRow) (ran : Ran d run log rows) (long : length rows ≡ 32) where
   board_on : (e : Event) → Right d log e → log' ≡ log_after d log e.0 → RowsAfter rows e rows' → (g : ℕ) → g < 32 → RowTells d (run ++ (e ∷ [])) log' g (get_or rows' g open_row)
@@ -138,14 +107,10 @@ module _ (d : Meaning) (run : List Event) (log log' : List ℕ) (rows rows' : Li
 
   pub carried_on : (e : Event) → Right d log e → log' ≡ log_after d log e.0 → RowsAfter rows e rows' → Ran d (run ++ (e ∷ [])) log' rows'
   carried_on e right is after = record {
-    answered = λ before x later o. go before x later (split run before e x later o.is);
+    answered = at_each run e (λ before x later. Right d (book d before) x) (rw (← ran.logged) right) ran.answered;
     logged = rw (is, book_from_lem d [] run e, ran.logged);
     board = board_on e right is after;
   }
-    where
-      go : (before : List Event) (x : Event) (later : List Event) → Split run before e x later → Right d (book d before) x
-      go before x later (at_end s t u) = rw (s, t, ← ran.logged) right
-      go before x later (within rest s t) = ran.answered before x rest (record { is = t })
 
 -- A watch that begins: no call was made.
 pub begun : (d : Meaning) (rows : List BoardRow) → rows ≡ replicate 32 open_row → Ran d [] [] rows

@@ -1,13 +1,11 @@
-use Rattle.std.proofs.Common.{rules, ◌≡◌, length, Ok}
+use Rattle.std.proofs.Common.{rules, Ok}
 use Rattle.watch.proofs.Laws.{retract_law}
 use Rattle.watch.proofs.watch.Watch.retract.Goals as goal
 
 pub returns-in_err-drop_entry-clause-law : goal.returns-in_err-drop_entry-clause-law
 returns-in_err-drop_entry-clause-law g c =
-    let long : length c.args.self.now.rows ≡ 32 = rw (← c.self.view_is) c.self.inside.board.long in
-    retract_law _ _ _ _ _ long c.from_residual.result (search rules) (search rules) (search rules)
+    retract_law _ _ _ _ _ c.args.self.now.long c.from_residual.result (search rules) (search rules) (search rules)
 
 pub returns-clause-law : goal.returns-clause-law
 returns-clause-law g c =
-    let long : length c.args.self.now.rows ≡ 32 = rw (← c.self.view_is) c.self.inside.board.long in
-    retract_law _ _ _ _ _ long (Ok tt) (search rules) (search rules) (search rules)
+    retract_law _ _ _ _ _ c.args.self.now.long (Ok tt) (search rules) (search rules) (search rules)
