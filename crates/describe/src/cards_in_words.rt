@@ -62,29 +62,37 @@ impl InWords for Card {
 
     const ACTION: &'static str = "action";
 
-    type Action = CardAction;
+    type Action = Action;
 
-    type State = Fluents;
+    type Goal = FluentSet;
+
+    type ActionWords = CardAction;
+
+    type StateWords = Fluents;
 
     fn size(&self) -> u8 {
         self.width()
     }
 
+    fn all_actions(&self) -> &[Action] {
+        self.actions()
+    }
+
+    fn all_goals(&self) -> &[FluentSet] {
+        self.goals()
+    }
+
     fn start_in_words(&self) -> Fluents {
-        Fluents {
-            width: self.width(),
-            set: FluentSet::from(self.start()),
-        }
+        self.goal_in_words(FluentSet::from(self.start()))
     }
 
-    fn action_in_words(&self, number: u8) -> Option<CardAction> {
+    fn action_in_words(&self, action: Action) -> CardAction {
         let width = self.width();
-        self.action(number)
-            .map(|action| CardAction { width, action })
+        CardAction { width, action }
     }
 
-    fn goal_in_words(&self, number: u8) -> Option<Fluents> {
+    fn goal_in_words(&self, set: FluentSet) -> Fluents {
         let width = self.width();
-        self.goal(number).map(|set| Fluents { width, set })
+        Fluents { width, set }
     }
 }

@@ -11,19 +11,28 @@ pub(crate) trait InWords: Domain {
 
     const ACTION: &'static str;
 
-    // what is printed of an action, and of the start or a goal
-    type Action: fmt::Display + Drop;
+    // an action and a goal, as the domain has them
+    type Action: Copy;
 
-    type State: fmt::Display + Drop;
+    type Goal: Copy;
+
+    // what is printed of an action, and of the start or a goal
+    type ActionWords: fmt::Display + Drop;
+
+    type StateWords: fmt::Display + Drop;
 
     // How many fluents or places there are.
     fn size(&self) -> u8;
 
-    fn start_in_words(&self) -> Self::State;
+    fn all_actions(&self) -> &[Self::Action];
 
-    fn action_in_words(&self, number: u8) -> Option<Self::Action>;
+    fn all_goals(&self) -> &[Self::Goal];
 
-    fn goal_in_words(&self, number: u8) -> Option<Self::State>;
+    fn start_in_words(&self) -> Self::StateWords;
+
+    fn action_in_words(&self, action: Self::Action) -> Self::ActionWords;
+
+    fn goal_in_words(&self, goal: Self::Goal) -> Self::StateWords;
 }
 
 // What an action costs, and whether it is marked.
@@ -52,12 +61,12 @@ pub(crate) fn say_domain<D: InWords>(rt: &HostRuntime, domain: &D) -> anyhow::Re
     let start = domain.start_in_words();
     println!(rt; "  {kind}: width {width}, {size} {states}, {actions} {action}s, {goals} goals")?;
     println!(rt; "  start: {start}")?;
-    let told = (0..actions).filter_map(|number| domain.action_in_words(number));
-    for (number, words) in told.enumerate() {
+    for (number, part) in domain.all_actions().iter().enumerate() {
+        let words = domain.action_in_words(*part);
         println!(rt; "  {action} {number}: {words}")?;
     }
-    let told = (0..goals).filter_map(|number| domain.goal_in_words(number));
-    for (number, words) in told.enumerate() {
+    for (number, part) in domain.all_goals().iter().enumerate() {
+        let words = domain.goal_in_words(*part);
         println!(rt; "  goal {number}: {words}")?;
     }
     Ok(())

@@ -3,6 +3,7 @@ use crate::domains_in_words::{Cost, InWords};
 use domain::Domain;
 use maps::field_map::FieldMap;
 use maps::moves::Move;
+use maps::place::Place;
 use std::fmt;
 
 // A place, by its number.
@@ -42,23 +43,35 @@ impl InWords for FieldMap {
 
     const ACTION: &'static str = "move";
 
-    type Action = MapMove;
+    type Action = Move;
 
-    type State = PlaceNumber;
+    type Goal = Place;
+
+    type ActionWords = MapMove;
+
+    type StateWords = PlaceNumber;
 
     fn size(&self) -> u8 {
         self.places()
+    }
+
+    fn all_actions(&self) -> &[Move] {
+        self.moves()
+    }
+
+    fn all_goals(&self) -> &[Place] {
+        self.goals()
     }
 
     fn start_in_words(&self) -> PlaceNumber {
         PlaceNumber(self.start())
     }
 
-    fn action_in_words(&self, number: u8) -> Option<MapMove> {
-        self.move_at(number).map(MapMove)
+    fn action_in_words(&self, step: Move) -> MapMove {
+        MapMove(step)
     }
 
-    fn goal_in_words(&self, number: u8) -> Option<PlaceNumber> {
-        self.goal(number).map(|place| PlaceNumber(place.into()))
+    fn goal_in_words(&self, place: Place) -> PlaceNumber {
+        PlaceNumber(place.into())
     }
 }
