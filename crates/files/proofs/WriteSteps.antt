@@ -1,5 +1,5 @@
 -- Steps of the functions that write.
-use Rattle.std.proofs.Common.{◌⊎◌, ⊎_elim, ◌≡◌, ℕ, ◌+◌, ◌-◌, ◌*◌, ◌%◌, ◌<◌, ◌≤◌, List, [], ◌∷◌, ◌++◌, map, length, get_or, take, drop, set, Ok, Err, sym, refl, ap, ◌∙◌, subst, append_assoc, arith}
+use Rattle.std.proofs.Common.{◌⊎◌, ⊎_elim, ◌≡◌, ℕ, ◌+◌, ◌-◌, ◌*◌, ◌%◌, ◌^◌, ◌<◌, ◌≤◌, List, [], ◌∷◌, ◌++◌, map, length, get_or, take, drop, set, Ok, Err, sym, refl, ap, ◌∙◌, subst, append_assoc, arith}
 use Rattle.std.proofs.lemmas.List.{at_drop_more, drop_all, take_at, drop_at, length-take-le, drop-drop, get_or-drop, length-append, length-drop, length-map, append-nil, take-append-drop, take_all}
 use Rattle.std.proofs.lemmas.List.Folds.{flat_map-map}
 use Rattle.std.proofs.lemmas.Bool.{le-leb, lt-leb, cond-true, cond-false}
@@ -95,6 +95,19 @@ bytes_of_four Card Action vs = simp (get_or-drop)
 bytes_of_four Card Goal vs = refl
 bytes_of_four Map Action vs = simp (get_or-drop)
 bytes_of_four Map Goal vs = refl
+
+pub map_of_four : (k : Kind) (p : Part) (vs : List ℕ) (top : ℕ) → bit_map (fields_of k p) (four_of vs) top ≡ bit_map (fields_of k p) vs top
+map_of_four Card Action vs top = simp (get_or-drop)
+map_of_four Card Goal vs top = refl
+map_of_four Map Action vs top = simp (get_or-drop)
+map_of_four Map Goal vs top = refl
+
+-- the bits below the mark's
+pub fields_bits : (k : Kind) (p : Part) → 2 ^ length (fields_of k p) ≤ 16
+fields_bits Card Action = omega arith
+fields_bits Card Goal = omega arith
+fields_bits Map Action = omega arith
+fields_bits Map Goal = omega arith
 
 -- where no field or no value is left, all is written
 pub fields_all : (fs : List Field) (vs bytes p q : List ℕ) (m : ℕ) → length fs ≤ length vs → (length fs ≡ 0) ⊎ (length vs ≡ 0) → Begun bytes (all_field_bytes fs vs) p q m → Wrote bytes p q m

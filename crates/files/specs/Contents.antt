@@ -75,7 +75,7 @@ InRange size [] (v ∷ vs) = ⊥
 InRange size (f ∷ fs) [] = ⊥
 InRange size (f ∷ fs) (v ∷ vs) = (v < limit_of size f) × InRange size fs vs
 
--- a value in range for each field, and no mark where there is no from_bool for it
+-- a value in range for each field, and no mark where there is no bit for it
 abbrev pub ValidEntry : Kind → Part → ℕ → Entry → Type 0
 ValidEntry k p size e = InRange size (fields_of k p) e.values × ((is_markable p && e.marked) ≡ e.marked)
 

@@ -18,7 +18,7 @@ abbrev pub place_after : List ℕ → List ℕ → List ℕ
 place_after bytes place = if nat_le (length bytes) (length place) then bytes ++ drop (length bytes) place else place
 
 -- bytes stand in the front of a place, and what is behind them is as it was
--- Each of the four functions that write asks that the bytes fit, and promises this: a trait with both would need a type for each thing that is written, as a field with its value, or an item with its layout.
+-- each of the four functions that write asks that the bytes fit, and promises this: a trait with both would need a type for each thing that is written, as a field with its value, or an item with its layout.
 pub record Wrote (bytes before after : List ℕ) (count : ℕ) : Type 0 where
   pub count_is : count ≡ length bytes
   pub place_is : after ≡ bytes ++ drop count before

@@ -41,6 +41,7 @@ impl Cursor<'_> {
         let mut values = [0; 4];
         let mut rest = map;
         let mut byte = self.at.byte;
+        // the fields are taken one by one: of what is written through `iter_mut().zip(..)` nothing is known
         let mut fields = layout.fields().iter();
         for value in values.iter_mut() {
             let Some(field) = fields.next() else { break };
