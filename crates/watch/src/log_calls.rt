@@ -1,33 +1,17 @@
 // The calls on a watch that change its log.
-ghost use Rattle.std.specs.Prelude.{◌≡◌, [], replicate};
-ghost use Rattle.board.specs.Rows.{open_row};
+ghost use Rattle.std.specs.Prelude.{◌≡◌};
 ghost use Rattle.watched.specs.Noting.{add_outcome, drop_outcome};
 ghost use Rattle.watch.specs.Book.{log_after};
 ghost use Rattle.watch.specs.Calls.{note, retract};
 ghost use Rattle.watch.specs.Faults.{watch_number, of_log};
 ghost use Rattle.watch.specs.Reports.{numbered};
-ghost use Rattle.watch.specs.Runs.{Ran, RowsAfter, Then};
+ghost use Rattle.watch.specs.Runs.{RowsAfter, Then};
 
 use crate::fault::WatchFault;
 use crate::watch::Watch;
-use board::board::Board;
 use domain::Domain;
-use watched::watched::Watched;
 
 impl<D: Domain> Watch<D> {
-    // A watch begins with an empty log, and all its rows are open.
-    pub(crate) fn new(domain: D) -> Watch<D>
-        ensures domain { result.domain ≡ domain }
-        ensures log { result.log ≡ [] }
-        ensures rows { result.rows ≡ replicate 32 open_row }
-        ensures law { Ran (D.meaning domain) [] result.log result.rows }
-    {
-        Watch {
-            watched: Watched::new(domain),
-            board: Board::new(),
-        }
-    }
-
     // Notes an action that was seen: it is appended to the log, and every row is opened.
     pub(crate) fn note(&mut self, action: u8) -> Result<(), WatchFault>
         ensures value { result ≡ of_log (add_outcome (D.meaning self.old.domain) self.old.log action) }

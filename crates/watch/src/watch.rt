@@ -1,5 +1,10 @@
 // A watch over a domain.
+ghost use Rattle.std.specs.Prelude.{◌≡◌, [], replicate};
+ghost use Rattle.board.specs.Rows.{open_row};
+ghost use Rattle.watch.specs.Runs.{Ran};
+
 use board::board::Board;
+use domain::Domain;
 use std::marker::Model;
 use watched::watched::Watched;
 
@@ -19,4 +24,19 @@ impl<D> Model for Watch<D> {
     ghost Value = { Kept D };
 
     ghost view = { λ w. record { domain = w.watched.domain; log = entries w.watched.log; rows = w.board.rows; few = few_entries w.watched.log; long = w.board.long; agree = w.board.agree } };
+}
+
+impl<D: Domain> Watch<D> {
+    // A watch begins with an empty log, and all its rows are open.
+    pub(crate) fn new(domain: D) -> Watch<D>
+        ensures domain { result.domain ≡ domain }
+        ensures log { result.log ≡ [] }
+        ensures rows { result.rows ≡ replicate 32 open_row }
+        ensures law { Ran (D.meaning domain) [] result.log result.rows }
+    {
+        Watch {
+            watched: Watched::new(domain),
+            board: Board::new(),
+        }
+    }
 }
