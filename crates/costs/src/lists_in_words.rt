@@ -69,7 +69,7 @@ impl<D: Domain> Judged<'_, D> {
     }
 }
 
-// The states that the first actions of a list lead through, from the start on.
+// The states that the first actions of a list lead through, from the start on. It is no `Row`, since they stand in no slice.
 #[derive(Drop)]
 struct Through<'a, D> {
     judged: &'a Judged<'a, D>,

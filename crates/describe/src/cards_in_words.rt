@@ -6,7 +6,7 @@ use domain::Domain;
 use fluents::FluentSet;
 use std::fmt;
 
-// The fluents of a set that are below the width, in order.
+// The fluents of a set that are below the width, in order. It is no `Row`, since they stand in no slice.
 #[derive(Clone, Copy)]
 pub(crate) struct Fluents {
     width: u8,
