@@ -15,5 +15,5 @@ returns c =
     let goals_with_log = c.push_each-4.ensures.items (λ g. with_log card log (goal_at card g)) (λ number x l p. search rules) in
     record {
       actions = parts_are (own_action card log) (copy card log) room.actions.items no_action (omega (arith, room.actions.ok.0, room.empty.0)) (search rules) c.entry_count.ensures own copies;
-      goals = parts_are (goal_at card) (λ g. with_log card log (goal_at card g)) room.goals.items empty_set (omega (arith, room.goals.ok.0, room.empty.1)) (search rules) (search rules) own_goals goals_with_log;
+      goals = parts_are (goal_at card) (λ g. with_log card log (goal_at card g)) room.goals.items {j = c.goal_count-goal_count.result} empty_set (omega (arith, room.goals.ok.0, room.empty.1)) (search rules) (search rules) own_goals goals_with_log;
     }
