@@ -9,6 +9,7 @@ use crate::least_costs::MOST_ROWS;
 use crate::progress::Progress;
 use crate::reach::reach;
 use domain::Domain;
+use domain::limits::MOST_COST;
 use heap::take_least;
 use table::row::{Node, Row, Step};
 
@@ -28,7 +29,7 @@ pub(crate) fn take_next(
     Some(entry.row)
 }
 
-// Offers what one action leads to from the settled row, which has the node `here`; no way costs more than 60000 for each of MOST_ROWS steps. It is refused where that is new and the table is full.
+// Offers what one action leads to from the settled row, which has the node `here`; no way costs more than MOST_COST for each of MOST_ROWS steps. It is refused where that is new and the table is full.
 fn offer<D: Domain>(
     domain: &D,
     rows: &mut [Row],
@@ -38,7 +39,7 @@ fn offer<D: Domain>(
     here: &Node,
     action: u8,
 ) -> Result<(), SearchFault>
-    requires { (progress.old.known ≤ length rows.old) × (here.now.cost ≤ 60000 * MOST_ROWS) × (here.now.steps < MOST_ROWS) }
+    requires { (progress.old.known ≤ length rows.old) × (here.now.cost ≤ MOST_COST * MOST_ROWS) × (here.now.steps < MOST_ROWS) }
     ensures { (before : Stage) → SettledRow before row here.now → Expanded (D.meaning domain.now) before row action (stage_of rows.old list.old progress.old) → Expands (D.meaning domain.now) before row (action + 1) (stage_of rows.new list.new progress.new) result }
 {
     let state = domain.next(here.state, action);
