@@ -1,19 +1,15 @@
 -- What is known of a card and a log of which all questions are answered yes.
-use Rattle.std.proofs.Common.{◌≡◌, ℕ, ◌+◌, ◌<◌, ◌≤◌, Bool, true, false, cond, leb, ltb, List, length, get_or, Ok, Err, Result, sym, refl, ap, ◌∙◌, subst, arith}
+use Rattle.std.proofs.Common.{◌≡◌, ℕ, ◌+◌, ◌<◌, ◌≤◌, true, leb, ltb, List, length, get_or, Ok, Err, Result, sym, refl, ap, ◌∙◌, subst, arith}
 use Rattle.std.specs.List.{list_all}
 use Rattle.std.proofs.lemmas.Bool.{leb-true, ltb-true}
 use Rattle.std.proofs.lemmas.List.Sums.{AllPass-from_list_all}
 use Rattle.domain.specs.declared.fault.LogFault.{LogFault}
 use Rattle.domain.specs.declared.fault.LogFault.TheVariants.{Action, Full}
+use Rattle.files.proofs.Outcomes.{passed}
 use Rattle.cards.specs.Contents.{Contents}
 use Rattle.logs.specs.Reading.{read_log}
 use Rattle.compile.specs.Questions.{fitting, then_fitting, accepted_log, Fits}
 use Rattle.compile.specs.declared.fault.CompileFault.TheVariants.{Fluents, Actions, Goals}
-
--- a test that decides between an answer and a refusal was passed where there is an answer
-passed : {X E : Type 0} (b : Bool) (r : Result X E) (e : E) (x : X) → cond b r (Err e) ≡ Ok x → (b ≡ true) × (r ≡ Ok x)
-passed true r e x h = (refl, h)
-passed false r e x h = absurd cc
 
 log_ok : (bytes log : List ℕ) (n : ℕ) → read_log bytes n ≡ Ok log → (log ≡ bytes) × (length bytes ≤ 20) × (list_all (λ a. ltb a n) bytes ≡ true)
 log_ok bytes log n h =

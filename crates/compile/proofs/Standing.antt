@@ -2,6 +2,7 @@
 use Rattle.std.proofs.Common.{◌≡◌, ℕ, ◌+◌, ◌<◌, ◌≤◌, List, length, Some, Ok, Err, Result, refl, ap, ◌∙◌, subst, ⊎_elim, arith}
 use Rattle.std.proofs.lemmas.Bool.{cases_lt, lt-ltb, eq-eqb, cond-true, both_ways}
 use Rattle.domain.specs.Meaning.{Meaning}
+use Rattle.files.proofs.Outcomes.{known_ok}
 use Rattle.fluents.specs.Fluents.{holds}
 use Rattle.fluents.specs.declared.FluentSet.{FluentSet}
 use Rattle.fluents.proofs.Sets.{holds_past}
@@ -14,9 +15,7 @@ use Rattle.plans.proofs.Carrying.{counted_carries, carries_counted}
 use Rattle.plans.proofs.Judging.{judges_rightly}
 use Rattle.compile.specs.Compiled.{compiled}
 use Rattle.compile.specs.Law.{SameLeastCost, StandsByCosts, CompileLaw}
-use Rattle.compile.specs.Outcome.{compiled_if}
 use Rattle.compile.specs.Questions.{accepted_log}
-use Rattle.compile.specs.declared.fault.CompileFault.{CompileFault}
 use Rattle.compile.proofs.Accepting.{accepted_fits}
 use Rattle.compile.proofs.Costs.{CostsAtMost, least_over}
 use Rattle.compile.proofs.Down.{Counted, Below, ran_below}
@@ -112,13 +111,9 @@ module _ (c : Contents) (log : List ℕ) (new : Contents) (shape : Shape c log n
   stands_by_costs : StandsByCosts c log new
   stands_by_costs = record { stands_same = stands_same; same_stands = same_stands }
 
-ok_card : (c : Contents) (r : Result (List ℕ) CompileFault) (new : Contents) → compiled_if c r ≡ Ok new → (log : List ℕ) × (r ≡ Ok log) × (compiled c log ≡ new)
-ok_card c (Ok log) new e = (log, refl, cc)
-ok_card c (Err fault) new e = absurd cc
-
 pub compile_law : CompileLaw
 compile_law c bytes new l e =
-    let was = ok_card c (accepted_log c bytes) new e in
+    let was = known_ok (compiled c) (accepted_log c bytes) new e in
     let log = was.0 in
     let yes = accepted_fits c bytes log was.1 in
     subst (StandsByCosts c bytes) was.2 (subst (λ bytes. StandsByCosts c bytes (compiled c log)) yes.1 (stands_by_costs c log (compiled c log) (compiled_shape c log l yes.0)))
