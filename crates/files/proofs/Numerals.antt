@@ -3,8 +3,8 @@ use Rattle.std.proofs.Common.{◌≡◌, ℕ, zero, suc, ◌+◌, ◌*◌, ◌/�
 use native.Mathlib.Nat.{div-eq_of_lt, div-div-eq-div-mul}
 use Rattle.std.specs.Int.{byte_at, byte_worth, bytes_low_first, sum_through, to_le_bytes, from_le_bytes}
 use Rattle.std.proofs.lemmas.Nat.{shr_split, mod_below, pow_pos}
-use Rattle.std.proofs.ByRecursion.{All-from_get_or}
 use Rattle.std.proofs.lemmas.List.{take_all}
+use Rattle.std.proofs.lemmas.List.Elements.{All-from_get_or, All-head, All-tail}
 use Rattle.std.proofs.lemmas.Bool.{eqb-true, eq-eqb}
 use Rattle.files.specs.Numbers.{Bytes, little, spelled}
 
@@ -58,10 +58,10 @@ little_spelled (suc n) v h =
 pub spelled_little : (bs : List ℕ) → Bytes bs → spelled (length bs) (little bs) ≡ bs
 spelled_little [] h = refl
 spelled_little (b ∷ bs) h =
-    let byte : b < 256 = h.0 in
+    let byte : b < 256 = All-head (λ b. b < 256) b bs h in
     let low : (b + 256 * little bs) % 256 ≡ b = omega arith in
     let high : (b + 256 * little bs) / 256 ≡ little bs = omega arith in
-    ap (λ x. x ∷ spelled (length bs) ((b + 256 * little bs) / 256)) low ∙ ap (λ x. b ∷ spelled (length bs) x) high ∙ ap (λ t. b ∷ t) (spelled_little bs h.1)
+    ap (λ x. x ∷ spelled (length bs) ((b + 256 * little bs) / 256)) low ∙ ap (λ x. b ∷ spelled (length bs) x) high ∙ ap (λ t. b ∷ t) (spelled_little bs (All-tail (λ b. b < 256) b bs h))
 
 -- Writing: the lowest bytes.
 pub high_next : (v i : ℕ) → v / 256 ^ i / 256 ≡ v / 256 ^ suc i

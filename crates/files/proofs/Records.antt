@@ -2,8 +2,9 @@
 use Rattle.std.proofs.Common.{◌≡◌, ℕ, zero, suc, ◌+◌, ◌-◌, ◌*◌, ◌^◌, ◌<◌, ◌≤◌, Bool, true, false, ◌&&◌, ltb, leb, List, [], ◌∷◌, ◌++◌, length, get_or, drop, Ok, sym, refl, ap, ◌∙◌, subst, append_assoc, add-zero, pow-suc, arith}
 use native.Mathlib.Nat.{pow-le-pow_right}
 use Rattle.std.specs.Int.{from_bool}
-use Rattle.std.specs.List.{flat_map, AllByRecursion}
+use Rattle.std.specs.List.{flat_map, All}
 use Rattle.std.proofs.lemmas.List.{drop_more, drop-drop, length-drop, length-append, get_or-drop}
+use Rattle.std.proofs.lemmas.List.Elements.{All-nil, All-cons, All-head, All-tail}
 use Rattle.std.proofs.lemmas.Bool.{ltb-true, lt-ltb, leb-true, le-leb, cond-true}
 use Rattle.files.specs.declared.field.Field.{Field}
 use Rattle.files.specs.declared.kind.Kind.{Kind}
@@ -86,12 +87,12 @@ module _ (bs : List ℕ) (all : Bytes bs) (k : Kind) (p : Part) (size : ℕ) (so
       })
 
   pub record RecordsRead (n at : ℕ) (x : List Entry × ℕ) : Type 0 where
-    pub valid : AllByRecursion (ValidEntry k p size) x.0
+    pub valid : All (ValidEntry k p size) x.0
     pub count : length x.0 ≡ n
     pub bytes : drop at bs ≡ flat_map (record_bytes k p) x.0 ++ drop x.1 bs
 
   pub records_read : (n r at : ℕ) (x : List Entry × ℕ) → read_records k p size bs n r at ≡ Ok x → RecordsRead n at x
-  records_read zero r at x e = subst (RecordsRead zero at) (ok_same _ x e) (record { valid = tt; count = refl; bytes = refl })
+  records_read zero r at x e = subst (RecordsRead zero at) (ok_same _ x e) (record { valid = All-nil (ValidEntry k p size); count = refl; bytes = refl })
   records_read (suc n) r at x e =
       let one = then_ok (read_record k p size bs r at) _ x e in
       let entry = one.0.0 in
@@ -101,7 +102,7 @@ module _ (bs : List ℕ) (all : Bytes bs) (k : Kind) (p : Part) (size : ℕ) (so
       let there = records_read n (r + 1) next rest.0 rest.1 in
       subst (RecordsRead (suc n) at) rest.2
       (record {
-        valid = (here.valid, there.valid);
+        valid = All-cons (ValidEntry k p size) entry rest.0.0 here.valid there.valid;
         count = ap suc there.count;
         bytes = here.bytes ∙ ap (λ t. record_bytes k p entry ++ t) there.bytes ∙ sym (append_assoc (record_bytes k p entry) (flat_map (record_bytes k p) rest.0.0) (drop rest.0.1 bs));
       })
@@ -143,7 +144,7 @@ module _ (bs : List ℕ) (k : Kind) (p : Part) (size : ℕ) (most : size ≤ mos
       ∙ ap (λ b. Ok (record { values = e.values; marked = b }, at + 1 + length fields)) marked
       ∙ ap (λ n. Ok (e, n)) end
 
-  pub records_written : (r at : ℕ) (es : List Entry) (tail : List ℕ) → AllByRecursion (ValidEntry k p size) es → drop at bs ≡ flat_map (record_bytes k p) es ++ tail
+  pub records_written : (r at : ℕ) (es : List Entry) (tail : List ℕ) → All (ValidEntry k p size) es → drop at bs ≡ flat_map (record_bytes k p) es ++ tail
       → read_records k p size bs (length es) r at ≡ Ok (es, at + length (flat_map (record_bytes k p) es))
   records_written r at [] tail valid b = ap (λ n. Ok ([], n)) (sym (add-zero at))
   records_written r at (e ∷ es) tail valid b =
@@ -152,6 +153,6 @@ module _ (bs : List ℕ) (k : Kind) (p : Part) (size : ℕ) (most : size ≤ mos
       let b' : drop at bs ≡ here ++ (rest ++ tail) = b ∙ append_assoc here rest tail in
       let next = at + length here in
       let end : next + length rest ≡ at + length (here ++ rest) = omega (arith, length-append here rest) in
-      ap (λ q. and_then q (λ x. with_first x.0 (read_records k p size bs (length es) (r + 1) x.1))) (record_written r at e (rest ++ tail) valid.0 b')
-      ∙ ap (with_first e) (records_written (r + 1) next es tail valid.1 (after_bytes bs at here (rest ++ tail) b'))
+      ap (λ q. and_then q (λ x. with_first x.0 (read_records k p size bs (length es) (r + 1) x.1))) (record_written r at e (rest ++ tail) (All-head (ValidEntry k p size) e es valid) b')
+      ∙ ap (with_first e) (records_written (r + 1) next es tail (All-tail (ValidEntry k p size) e es valid) (after_bytes bs at here (rest ++ tail) b'))
       ∙ ap (λ n. Ok (e ∷ es, n)) end

@@ -1,7 +1,8 @@
 -- Files by what their records stand for: reading and writing are inverse to each other.
 use Rattle.std.proofs.Common.{◌≡◌, ℕ, List, [], ◌∷◌, map, Ok, sym, refl, ap, ◌∙◌, subst, arith}
-use Rattle.std.specs.List.{AllByRecursion}
+use Rattle.std.specs.List.{All}
 use Rattle.std.proofs.lemmas.List.{length-map}
+use Rattle.std.proofs.lemmas.List.Elements.{All-head, All-tail, All-map, All-weaker}
 use Rattle.files.specs.declared.kind.Kind.{Kind}
 use Rattle.files.specs.declared.kind.Part.TheVariants.{Action, Goal}
 use Rattle.files.specs.Contents.{Entry, File, RawFile, file_bytes, ValidEntry, ValidFile}
@@ -14,13 +15,12 @@ use Rattle.files.proofs.WholeFiles.{file_written}
 
 -- there and back again, of each element
 module _ {X Y : Type 0} (P : X → Type 0) (Q : Y → Type 0) (f : X → Y) (g : Y → X) (each : (x : X) → P x → Q (f x) × (g (f x) ≡ x)) where
-  all_there : (xs : List X) → AllByRecursion P xs → AllByRecursion Q (map f xs)
-  all_there [] h = tt
-  all_there (x ∷ xs) h = ((each x h.0).0, all_there xs h.1)
+  all_there : (xs : List X) → All P xs → All Q (map f xs)
+  all_there xs h = All-map Q f xs (All-weaker P (λ x. Q (f x)) (λ x p. (each x p).0) xs h)
 
-  all_back : (xs : List X) → AllByRecursion P xs → map g (map f xs) ≡ xs
+  all_back : (xs : List X) → All P xs → map g (map f xs) ≡ xs
   all_back [] h = refl
-  all_back (x ∷ xs) h = ap (λ y. y ∷ map g (map f xs)) (each x h.0).1 ∙ ap (λ ys. x ∷ ys) (all_back xs h.1)
+  all_back (x ∷ xs) h = ap (λ y. y ∷ map g (map f xs)) (each x (All-head P x xs h)).1 ∙ ap (λ ys. x ∷ ys) (all_back xs (All-tail P x xs h))
 
 -- S stands for the actions' records and G for the goals'; Good says which ones a domain of a size may have
 module _ {S G : Type 0} (k : Kind) (make_s : Entry → S) (entry_s : S → Entry) (make_g : Entry → G) (entry_g : G → Entry) (GoodS : ℕ → S → Type 0) (GoodG : ℕ → G → Type 0) where

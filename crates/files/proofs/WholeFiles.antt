@@ -1,7 +1,6 @@
 -- Whole files: what is read is what was written.
 use Rattle.std.proofs.Common.{◌≡◌, ℕ, ◌+◌, ◌%◌, ◌^◌, ◌<◌, ◌≤◌, true, ltb, List, [], ◌∷◌, ◌++◌, length, get_or, drop, Ok, sym, refl, ap, ◌∙◌, subst, arith}
 use Rattle.std.specs.List.{flat_map}
-use Rattle.std.proofs.ByRecursion.{All-get_or}
 use Rattle.std.proofs.lemmas.List.{drop_more, drop_all, length-append, append-nil}
 use Rattle.std.proofs.lemmas.Bool.{and_parts, and_from, ltb-true, lt-ltb, leb-true, le-leb, eqb-true, eq-eqb, cond-true}
 use Rattle.files.specs.declared.kind.Kind.{Kind}
@@ -89,7 +88,7 @@ file_read k bs all f e =
     let nothing : drop y.1 bs ≡ [] = drop_all y.1 bs past in
     let is = head.is in
     let letter : get_or bs 0 0 ≡ letter_of k = head.letter in
-    let byte : (i : ℕ) → i < 4 → get_or bs i 0 < 256 = λ i l. All-get_or (λ b. b < 256) bs i 0 (omega (arith, header_long k, head.long)) all in
+    let byte : (i : ℕ) → i < 4 → get_or bs i 0 < 256 = λ i l. all i 0 (omega (arith, header_long k, head.long)) in
     let size : get_or bs 1 0 ≡ h.size % 256 = sym (byte_mod (get_or bs 1 0) (byte 1 (omega arith))) ∙ ap (λ h. h.size % 256) is in
     let some : get_or bs 2 0 ≡ length x.0 % 256 = sym (byte_mod (get_or bs 2 0) (byte 2 (omega arith))) ∙ ap (λ h. h.actions % 256) is ∙ ap (λ n. n % 256) (sym xs.count) in
     let more : get_or bs 3 0 ≡ length y.0 % 256 = sym (byte_mod (get_or bs 3 0) (byte 3 (omega arith))) ∙ ap (λ h. h.goals % 256) is ∙ ap (λ n. n % 256) (sym ys.count) in

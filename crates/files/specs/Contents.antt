@@ -1,7 +1,7 @@
 -- What a file holds, and the bytes that it is written as.
 use Rattle.std.specs.Prelude.{◌≡◌, ℕ, ◌+◌, ◌*◌, ◌<◌, ◌≤◌, Bool, if◌then◌else◌, not, ◌&&◌, List, [], ◌∷◌, ◌++◌, length, drop, ◌==◌, nat_lt, slice_index}
 use Rattle.std.specs.Int.{from_bool}
-use Rattle.std.specs.List.{flat_map, AllByRecursion}
+use Rattle.std.specs.List.{flat_map, All}
 use Rattle.files.specs.declared.field.Field.{Field}
 use Rattle.files.specs.declared.kind.Kind.{Kind}
 use Rattle.files.specs.declared.kind.Part.{Part}
@@ -87,5 +87,5 @@ pub record ValidFile (k : Kind) (f : RawFile) : Type 0 where
   pub goals_low : 1 ≤ length f.goals
   pub goals_high : length f.goals ≤ 32
   pub start_in : f.start < limit_of f.size (start_of k)
-  pub actions_valid : AllByRecursion (ValidEntry k Action f.size) f.actions
-  pub goals_valid : AllByRecursion (ValidEntry k Goal f.size) f.goals
+  pub actions_valid : All (ValidEntry k Action f.size) f.actions
+  pub goals_valid : All (ValidEntry k Goal f.size) f.goals

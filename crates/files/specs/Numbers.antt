@@ -1,10 +1,10 @@
 -- Numbers as bytes, lowest first.
 use Rattle.std.specs.Prelude.{ℕ, zero, suc, ◌+◌, ◌*◌, ◌/◌, ◌%◌, ◌<◌, List, [], ◌∷◌}
-use Rattle.std.specs.List.{AllByRecursion}
+use Rattle.std.specs.List.{All}
 
 -- each number of the list fits a byte
 abbrev pub Bytes : List ℕ → Type 0
-Bytes bs = AllByRecursion (λ b. b < 256) bs
+Bytes bs = All (λ b. b < 256) bs
 
 -- the number that bytes spell
 abbrev pub little : List ℕ → ℕ

@@ -1,6 +1,6 @@
 -- What the records of a file stand for, and which parts of a domain can stand in a file.
 use Rattle.std.specs.Prelude.{◌≡◌, ℕ, ◌<◌, ◌≤◌, length}
-use Rattle.std.specs.List.{AllByRecursion}
+use Rattle.std.specs.List.{All}
 use Rattle.files.specs.declared.kind.Kind.{Kind}
 use Rattle.files.specs.declared.kind.Part.TheVariants.{Action, Goal}
 use Rattle.files.specs.Contents.{Entry, File, ValidEntry}
@@ -24,5 +24,5 @@ module _ {S G : Type 0} (k : Kind) (make_s : Entry → S) (entry_s : S → Entry
     pub goals_low : 1 ≤ length f.goals
     pub goals_high : length f.goals ≤ 32
     pub start_in : f.start < limit_of f.size (start_of k)
-    pub actions_good : AllByRecursion (GoodS f.size) f.actions
-    pub goals_good : AllByRecursion (GoodG f.size) f.goals
+    pub actions_good : All (GoodS f.size) f.actions
+    pub goals_good : All (GoodG f.size) f.goals

@@ -1,7 +1,6 @@
 -- A map's records and what they stand for are made of each other, and its limits are those of its file.
 use Rattle.std.proofs.Common.{◌≡◌, ◌↔◌, ℕ, ◌<◌, ◌≤◌, min, Bool, false, List, [], ◌∷◌, refl, ap, ◌∙◌, arith}
 use native.Mathlib.Nat.{min-eq_left}
-use Rattle.std.proofs.lemmas.List.Elements.{All-from_recursion, recursion_from_All}
 use Rattle.files.specs.declared.kind.Kind.TheVariants as kind
 use Rattle.files.specs.declared.kind.Part.TheVariants as part
 use Rattle.files.specs.Contents.{File, ValidEntry}
@@ -67,8 +66,8 @@ same_limits f = (
     goals_low = l.goals_low;
     goals_high = l.goals_high;
     start_in = l.start_among;
-    actions_good = recursion_from_All (MoveAmong f.size) f.actions l.moves_among;
-    goals_good = recursion_from_All (Among f.size) f.goals l.goals_among;
+    actions_good = l.moves_among;
+    goals_good = l.goals_among;
   },
   λ v. record {
     places_low = v.size_low;
@@ -78,7 +77,7 @@ same_limits f = (
     goals_low = v.goals_low;
     goals_high = v.goals_high;
     start_among = v.start_in;
-    moves_among = All-from_recursion (MoveAmong f.size) f.actions v.actions_good;
-    goals_among = All-from_recursion (Among f.size) f.goals v.goals_good;
+    moves_among = v.actions_good;
+    goals_among = v.goals_good;
   },
 )
