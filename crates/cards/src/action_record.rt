@@ -1,9 +1,8 @@
 // An action as a record of a file.
-ghost use Rattle.std.specs.Prelude.{refl};
 ghost use Rattle.cards.specs.ActionRecords.{action_entry, entry_action};
 
 use crate::action::Action;
-use files::record::{Record, Values};
+use files::record::{Record, Values, first_four};
 use fluents::FluentSet;
 
 impl Record for Action {
@@ -11,7 +10,8 @@ impl Record for Action {
 
     ghost made = { entry_action };
 
-    fn from_values([needs, adds, deletes, cost]: Values, marked: bool) -> Action {
+    fn from_values(values: &[u64], marked: bool) -> Action {
+        let [needs, adds, deletes, cost] = first_four(values);
         Action {
             needs: FluentSet::from(needs),
             adds: FluentSet::from(adds),
@@ -33,6 +33,4 @@ impl Record for Action {
     fn is_marked(&self) -> bool {
         self.marked
     }
-
-    ghost of_four = { λ e. refl };
 }

@@ -9,7 +9,7 @@ use Rattle.files.specs.declared.kind.Part.{Part}
 use Rattle.files.specs.Contents.{Entry, four_of}
 use Rattle.files.specs.Cursors.{in_four}
 use Rattle.files.specs.Formats.{bytes_of}
-use Rattle.files.proofs.Outcomes.{ok_same, ok_or_err, passed}
+use Rattle.files.proofs.Outcomes.{ok_same, passed, then_ok, known_ok}
 use Rattle.files.specs.Reading.{and_then, with_first, is_odd, as_entry, read_field, read_fields, size_of, read_record, read_records, part_with, parts_with}
 
 -- what was read before, and then what is read next
@@ -70,10 +70,33 @@ pub fields_end : (bs : List ℕ) (size r at m : ℕ) (fs : List Field) (vs : Lis
 fields_end bs size r at m [] vs i n l h e = ap (λ t. Ok (four_of t, m, at)) (append-nil (take i vs)) ∙ ap (λ t. Ok (t, m, at)) (four_read vs i l h e)
 fields_end bs size r at m (f ∷ fs) vs i n l h e = absurd (omega arith)
 
+-- the values of the fields stand first in an array
+first_of_four : (vs : List ℕ) → length vs ≤ 4 → take (length vs) (four_of vs) ≡ vs
+first_of_four [] h = refl
+first_of_four (a ∷ []) h = refl
+first_of_four (a ∷ (b ∷ [])) h = refl
+first_of_four (a ∷ (b ∷ (c ∷ []))) h = refl
+first_of_four (a ∷ (b ∷ (c ∷ (d ∷ [])))) h = refl
+first_of_four (a ∷ (b ∷ (c ∷ (d ∷ (e ∷ vs))))) h = absurd (omega arith)
+
+fields_counted : (bs : List ℕ) (size r : ℕ) (fs : List Field) (at m : ℕ) (y : List ℕ × (ℕ × ℕ)) → read_fields bs size r at m fs ≡ Ok y → length y.0 ≡ length fs
+fields_counted bs size r [] at m y e = ap (λ y. length y.0) (sym (ok_same _ y e))
+fields_counted bs size r (f ∷ fs) at m y e =
+    let one = then_ok (read_field bs size r at f (is_odd m)) _ y e in
+    let rest = known_ok _ (read_fields bs size r one.0.1 (m / 2) fs) y one.2 in
+    ap (λ y. length y.0) (sym rest.2) ∙ ap suc (fields_counted bs size r fs one.0.1 (m / 2) rest.0 rest.1)
+
 -- what is made of fields in an array
-pub made_of_four : {X : Type 0} (make : Entry → X) → ((e : Entry) → make (record { values = four_of e.values; marked = e.marked }) ≡ make e) → (r : Result (List ℕ × (ℕ × ℕ)) ReadFault) (x : List ℕ × ℕ × ℕ) → Ok x ≡ in_four r → Ok (make (record { values = x.0; marked = is_odd x.1 }), x.2) ≡ part_with make (as_entry r)
-made_of_four make four (Ok y) x e = ap (λ x. Ok (make (record { values = x.0; marked = is_odd x.1 }), x.2)) (ok_same _ _ e) ∙ ap (λ z. Ok (z, y.1.1)) (four (record { values = y.0; marked = is_odd y.1.0 }))
-made_of_four make four (Err f) x e = ok_or_err x f (sym e)
+pub made_of_first : {X : Type 0} (make : Entry → X) (bs : List ℕ) (size r : ℕ) (fs : List Field) (at m : ℕ) (x : List ℕ × ℕ × ℕ) → length fs ≤ 4 → Ok x ≡ in_four (read_fields bs size r at m fs)
+    → Ok (make (record { values = take (length fs) x.0; marked = is_odd x.1 }), x.2) ≡ part_with make (as_entry (read_fields bs size r at m fs))
+made_of_first make bs size r fs at m x few e =
+    let was = known_ok _ (read_fields bs size r at m fs) x (sym e) in
+    let y = was.0 in
+    let count = fields_counted bs size r fs at m y was.1 in
+    let values : take (length fs) (four_of y.0) ≡ y.0 = ap (λ n. take n (four_of y.0)) (sym count) ∙ first_of_four y.0 (omega (arith, count, few)) in
+    ap (λ x. Ok (make (record { values = take (length fs) x.0; marked = is_odd x.1 }), x.2)) (sym was.2)
+    ∙ ap (λ vs. Ok (make (record { values = vs; marked = is_odd y.1.0 }), y.1.1)) values
+    ∙ ap (λ r. part_with make (as_entry r)) (sym was.1)
 
 pub bytes_few : (f : Field) → bytes_of f ≤ 7
 bytes_few Set = omega arith

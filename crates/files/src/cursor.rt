@@ -78,6 +78,7 @@ impl Cursor<'_> {
             return Err(cut);
         }
         let (values, rest, next) = Cursor { at, ..self }.fields(layout, *map)?;
-        Ok((R::from_values(values, rest % 2 == 1), next))
+        let count = layout.fields().len();
+        Ok((R::from_values(&values[..count], rest % 2 == 1), next))
     }
 }

@@ -1,27 +1,33 @@
 // What a record of a file stands for.
-ghost use Rattle.std.specs.Prelude.{◌≡◌, ◌≤◌, length};
+ghost use Rattle.std.specs.Prelude.{◌≡◌};
 ghost use Rattle.files.specs.Contents.{Entry, four_of};
 
-// The values of a record's fields, absent ones too, in the order of their bits. No record has more than four fields; behind the last one's value stands 0.
+// The values of a record's fields, absent ones too, in the order of their bits. No record of a file has more than four; behind the last one's value stands 0.
 pub type Values = [u64; 4];
 
 // A part of a domain that has a record of its own in the file: an action, a move, a goal.
-// The law: what is made of a record depends on its first four values alone.
 pub trait Record: Sized {
     // what its record holds, and what is made of such a record
     ghost written: { Self → Entry };
 
     ghost made: { Entry → Self };
 
-    fn from_values(values: Values, marked: bool) -> Self
-        ensures { result ≡ made (record { values = values; marked = marked }) };
+    fn from_values(values: &[u64], marked: bool) -> Self
+        ensures { result ≡ made (record { values = values.now; marked = marked }) };
 
     fn values(&self) -> Values
-        ensures value { result ≡ four_of (written self.now).values }
-        ensures few { length (written self.now).values ≤ 4 };
+        ensures { result ≡ four_of (written self.now).values };
 
     fn is_marked(&self) -> bool
         ensures { result ≡ (written self.now).marked };
+}
 
-    ghost of_four: { (e : Entry) → made (record { values = four_of e.values; marked = e.marked }) ≡ made e };
+// The first four of the values, and 0 for each that is missing.
+pub fn first_four(values: &[u64]) -> Values
+    ensures { result ≡ four_of values.now }
+{
+    let mut four = [0; 4];
+    let count = values.len().min(4);
+    four[..count].copy_from_slice(&values[..count]);
+    four
 }

@@ -1,16 +1,16 @@
 // A set as a record of a file: it has one field, and no mark.
-ghost use Rattle.std.specs.Prelude.{refl};
 ghost use Rattle.fluents.specs.SetRecords.{set_entry, entry_set};
 
 use crate::FluentSet;
-use files::record::{Record, Values};
+use files::record::{Record, Values, first_four};
 
 impl Record for FluentSet {
     ghost written = { set_entry };
 
     ghost made = { entry_set };
 
-    fn from_values([set, ..]: Values, _marked: bool) -> FluentSet {
+    fn from_values(values: &[u64], _marked: bool) -> FluentSet {
+        let [set, ..] = first_four(values);
         FluentSet::from(set)
     }
 
@@ -21,6 +21,4 @@ impl Record for FluentSet {
     fn is_marked(&self) -> bool {
         false
     }
-
-    ghost of_four = { λ e. refl };
 }

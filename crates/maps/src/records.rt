@@ -1,10 +1,10 @@
 // A move and a goal as records of a file.
-ghost use Rattle.std.specs.Prelude.{◌≡◌, refl};
+ghost use Rattle.std.specs.Prelude.{◌≡◌};
 ghost use Rattle.maps.specs.MapRecords.{place_of, move_entry, entry_move, goal_entry, entry_goal};
 
 use crate::moves::Move;
 use crate::place::Place;
-use files::record::{Record, Values};
+use files::record::{Record, Values, first_four};
 
 // The place that a value stands for; a file's places take eight bits.
 fn place_of(value: u64) -> Place
@@ -18,7 +18,8 @@ impl Record for Move {
 
     ghost made = { entry_move };
 
-    fn from_values([from, to, cost, _]: Values, marked: bool) -> Move {
+    fn from_values(values: &[u64], marked: bool) -> Move {
+        let [from, to, cost, _] = first_four(values);
         Move {
             from: place_of(from),
             to: place_of(to),
@@ -39,8 +40,6 @@ impl Record for Move {
     fn is_marked(&self) -> bool {
         self.marked
     }
-
-    ghost of_four = { λ e. refl };
 }
 
 impl Record for Place {
@@ -48,7 +47,8 @@ impl Record for Place {
 
     ghost made = { entry_goal };
 
-    fn from_values([place, ..]: Values, _marked: bool) -> Place {
+    fn from_values(values: &[u64], _marked: bool) -> Place {
+        let [place, ..] = first_four(values);
         place_of(place)
     }
 
@@ -59,6 +59,4 @@ impl Record for Place {
     fn is_marked(&self) -> bool {
         false
     }
-
-    ghost of_four = { λ e. refl };
 }
