@@ -15,7 +15,7 @@ impl Card {
     fn is_state(&self, state: u64) -> bool
         ensures { IsTrue result ↔ (state < 2 ^ (contents self.now).fluents) }
     {
-        state < 1u64 << self.parts.size()
+        FluentSet::from(state).is_among(self.parts.size())
     }
 
     // The action of that number, if it runs in the state.
@@ -65,10 +65,9 @@ impl Domain for Card {
         ensures stays { (Runs (contents self.now) state action → ⊥) → result ≡ state }
     {
         let s = FluentSet::from(state);
-        match self.running(state, action) {
-            Some(a) => u64::from(s.without(a.deletes).with(a.adds)),
-            None => state,
-        }
+        self.running(state, action).map_or(state, |a| {
+            u64::from(s.without(a.deletes).with(a.adds))
+        })
     }
 
     // The cost and the mark are asked for by the same lines as a field map's: a trait for the two would be longer than these lines.

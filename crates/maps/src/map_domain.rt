@@ -8,6 +8,10 @@ ghost use Rattle.maps.specs.Laws.{in_limits};
 use crate::field_map::FieldMap;
 use crate::moves::Move;
 use domain::Domain;
+use files::numbers::has_bits;
+
+// A place is a number below 64.
+const WIDTH: u8 = 6;
 
 impl FieldMap {
     // The move of that number, if it runs in the state.
@@ -25,9 +29,8 @@ impl Domain for FieldMap {
 
     ghost limits = { λ d. Laws.limits (contents d) (in_limits d) };
 
-    // A place is a number below 64.
     fn width(&self) -> u8 {
-        6
+        WIDTH
     }
 
     fn action_count(&self) -> u8 {
@@ -58,10 +61,8 @@ impl Domain for FieldMap {
         ensures reaches { Runs (contents self.now) state action → result ≡ (move_at (contents self.now) action).to.0 }
         ensures stays { (Runs (contents self.now) state action → ⊥) → result ≡ state }
     {
-        match self.running(state, action) {
-            Some(m) => u64::from(m.to),
-            None => state,
-        }
+        self.running(state, action)
+            .map_or(state, |m| u64::from(m.to))
     }
 
     // The cost and the mark are asked for by the same lines as a card's: a trait for the two would be longer than these lines.
@@ -93,6 +94,6 @@ impl Domain for FieldMap {
         ensures value { result ≡ (meaning_of (contents self.now)).complete state }
         ensures every { IsTrue result ↔ (state < 2 ^ 6) }
     {
-        state < 1u64 << self.width()
+        has_bits(state, self.width())
     }
 }
