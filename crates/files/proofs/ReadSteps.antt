@@ -3,7 +3,7 @@ use Rattle.std.proofs.Common.{◌≡◌, ℕ, zero, suc, ◌+◌, ◌-◌, ◌/�
 use Rattle.std.proofs.lemmas.List.{at_drop_more, append-nil}
 use Rattle.domain.specs.declared.fault.ReadFault.{ReadFault}
 use Rattle.files.specs.declared.field.Field.{Field}
-use Rattle.files.specs.declared.field.Field.TheVariants.{Set, Place, Cost}
+use Rattle.files.specs.declared.field.Field.TheVariants.{Set}
 use Rattle.files.specs.declared.kind.Kind.{Kind}
 use Rattle.files.specs.declared.kind.Part.{Part}
 use Rattle.files.specs.Contents.{Entry, four_of}
@@ -41,9 +41,6 @@ module _ (bs : List ℕ) (size r at m : ℕ) (vs : List ℕ) (fs gs : List Field
 
   pub fields_ok : (v next : ℕ) → read_field bs size r at f (is_odd m) ≡ Ok (v, next) → Rest ≡ prefixed (vs ++ (v ∷ [])) (read_fields bs size r next (m / 2) gs)
   fields_ok v next e = ap (λ fs. prefixed vs (read_fields bs size r at m fs)) is ∙ turn_ok vs _ _ _ (v, next) e
-
-  pub fields_err : (e : ReadFault) → read_field bs size r at f (is_odd m) ≡ Err e → Rest ≡ Err e
-  fields_err e was = ap (λ fs. prefixed vs (read_fields bs size r at m fs)) is ∙ turn_err vs _ _ _ e was
 
   pub size_first : size_of m fs ≡ cond (is_odd m) (bytes_of f) 0 + size_of (m / 2) gs
   size_first = ap (size_of m) is
@@ -97,11 +94,6 @@ made_of_first make bs size r fs at m x few e =
     ap (λ x. Ok (make (record { values = take (length fs) x.0; marked = is_odd x.1 }), x.2)) (sym was.2)
     ∙ ap (λ vs. Ok (make (record { values = vs; marked = is_odd y.1.0 }), y.1.1)) values
     ∙ ap (λ r. part_with make (as_entry r)) (sym was.1)
-
-pub bytes_few : (f : Field) → bytes_of f ≤ 7
-bytes_few Set = omega arith
-bytes_few Place = omega arith
-bytes_few Cost = omega arith
 
 -- the byte after a field
 pub field_next : (bs : List ℕ) (size r at : ℕ) (f : Field) (b : Bool) (x : ℕ × ℕ) → read_field bs size r at f b ≡ Ok x → x.1 ≡ at + cond b (bytes_of f) 0

@@ -11,10 +11,11 @@ pub const MOST_FLUENTS: u8 = MOST_WIDTH_BELOW;
 
 pub const MOST_PLACES: u8 = 64;
 
+// The number of each is the letter of its files.
 #[derive(Clone, Copy, PartialEq, Eq, Debug)]
 pub enum Kind {
-    Card,
-    Map,
+    Card = b'S' as isize,
+    Map = b'M' as isize,
 }
 
 // What a record after the header describes.
@@ -26,13 +27,10 @@ pub enum Part {
 
 impl Kind {
     // The first byte of a file.
-    pub(crate) fn letter(self) -> u8
+    pub fn letter(self) -> u8
         ensures { result ≡ letter_of self }
     {
-        match self {
-            Kind::Card => b'S',
-            Kind::Map => b'M',
-        }
+        self as u8
     }
 
     // The most fluents or places that there may be.
