@@ -1,5 +1,5 @@
 -- Steps of the functions that write.
-use Rattle.std.proofs.Common.{◌⊎◌, ⊎_elim, ◌≡◌, ℕ, ◌+◌, ◌-◌, ◌*◌, ◌%◌, ◌^◌, ◌<◌, ◌≤◌, List, [], ◌∷◌, ◌++◌, map, length, get_or, take, drop, set, Ok, Err, sym, refl, ap, ◌∙◌, subst, append_assoc, arith}
+use Rattle.std.proofs.Common.{◌⊎◌, ⊎_elim, ◌≡◌, ℕ, ◌+◌, ◌-◌, ◌*◌, ◌%◌, ◌^◌, ◌<◌, ◌≤◌, List, [], ◌∷◌, ◌++◌, map, length, get_or, take, drop, set, Option, None, SomeIff, Ok, Err, sym, refl, ap, ◌∙◌, subst, append_assoc, arith}
 use Rattle.std.proofs.lemmas.List.{at_drop_more, drop_all, take_at, drop_at, length-take-le, drop-drop, get_or-drop, length-append, length-drop, length-map, append-nil, take-append-drop, take_all}
 use Rattle.std.proofs.lemmas.List.Folds.{flat_map-map}
 use Rattle.std.proofs.lemmas.Bool.{le-leb, lt-leb, cond-true, cond-false}
@@ -77,8 +77,12 @@ wrote_byte b (x ∷ xs) h = record { count_is = refl; place_is = refl }
 
 -- a field and its value, which stand first among the others
 module _ (fs gs : List Field) (vs ws : List ℕ) (f : Field) (v : ℕ) (is : fs ≡ f ∷ gs) (holds : vs ≡ v ∷ ws) where
-  pub map_first : (top : ℕ) → bit_map fs vs top ≡ from_bool (is_written f v) + 2 * bit_map gs ws top
+  map_first : (top : ℕ) → bit_map fs vs top ≡ from_bool (is_written f v) + 2 * bit_map gs ws top
   map_first top = ap (λ fs. bit_map fs vs top) is ∙ ap (λ vs. bit_map (f ∷ gs) vs top) holds
+
+  -- the bit of the field is added to the map so far, and the next field's bit is twice as high
+  pub map_more : (top map bit n whole : ℕ) → n ≡ from_bool (is_written f v) → map + bit * bit_map fs vs top ≡ whole → map + bit * n + bit * 2 * bit_map gs ws top ≡ whole
+  map_more top map bit n whole e sum = omega (arith, ap (λ n. bit * n) (map_first top), ap (λ n. bit * n) e, sum)
 
   pub fields_next : (bytes p q : List ℕ) (m : ℕ) → Begun bytes (all_field_bytes fs vs) p q m → Begun bytes (field_bytes f v ++ all_field_bytes gs ws) p q m
   fields_next bytes p q m = subst (λ rest. Begun bytes rest p q m) (ap (λ fs. all_field_bytes fs vs) is ∙ ap (all_field_bytes (f ∷ gs)) holds)
@@ -128,6 +132,18 @@ module _ {X : Type 0} (l : Layout) (written : X → Entry) (xs : List X) (i : �
 pub header_long : (k : Kind) (size actions goals start : ℕ) → length (header_bytes k size actions goals start) ≡ header_length k
 header_long k size actions goals start = omega (arith, length_spelled (bytes_of (start_of k)) start)
 
+-- a place that all of a file was written into, and one that is too short for it
+module _ (bytes place : List ℕ) where
+  pub wrote_file : (after : List ℕ) (count : ℕ) → length bytes ≤ length place → Wrote bytes place after count → (Ok count ≡ write_outcome bytes place) × (after ≡ place_after bytes place)
+  wrote_file after count h w =
+      let fits = le-leb (length bytes) (length place) h in (
+        ap Ok w.count_is ∙ sym (cond-true _ _ _ fits),
+        w.place_is ∙ ap (λ n. bytes ++ drop n place) w.count_is ∙ sym (cond-true _ _ _ fits),
+      )
+
+  pub wrote_nothing : length place < length bytes → (Err Place ≡ write_outcome bytes place) × (place ≡ place_after bytes place)
+  wrote_nothing h = let short = lt-leb (length bytes) (length place) h in (sym (cond-false _ _ _ short), sym (cond-false _ _ _ short))
+
 -- A file by its parts.
 module _ {S G : Type 0} (k : Kind) (written_s : S → Entry) (written_g : G → Entry) (size start : ℕ) (actions : List S) (goals : List G) where
   abbrev pub header : List ℕ
@@ -156,14 +172,9 @@ module _ {S G : Type 0} (k : Kind) (written_s : S → Entry) (written_g : G → 
     header_long k size (length actions % 256) (length goals % 256) start,
   )
 
--- a place that all of a file was written into, and one that is too short for it
-module _ (bytes place : List ℕ) where
-  pub wrote_file : (after : List ℕ) (count : ℕ) → length bytes ≤ length place → Wrote bytes place after count → (Ok count ≡ write_outcome bytes place) × (after ≡ place_after bytes place)
-  wrote_file after count h w =
-      let fits = le-leb (length bytes) (length place) h in (
-        ap Ok w.count_is ∙ sym (cond-true _ _ _ fits),
-        w.place_is ∙ ap (λ n. bytes ++ drop n place) w.count_is ∙ sym (cond-true _ _ _ fits),
-      )
-
-  pub wrote_nothing : length place < length bytes → (Err Place ≡ write_outcome bytes place) × (place ≡ place_after bytes place)
-  wrote_nothing h = let short = lt-leb (length bytes) (length place) h in (sym (cond-false _ _ _ short), sym (cond-false _ _ _ short))
+  -- a place that the file does not fit
+  pub file_refused : (place : List ℕ) (left : Option ℕ) → left ≡ None → SomeIff left (file_length k written_s written_g actions goals ≤ length place) (length place - file_length k written_s written_g actions goals)
+      → (Err Place ≡ write_outcome (file_bytes k (raw_of written_s written_g size start actions goals)) place) × (place ≡ place_after (file_bytes k (raw_of written_s written_g size start actions goals)) place)
+  file_refused place left none is =
+      let short : file_length k written_s written_g actions goals ≤ length place → ⊥ = subst (λ left. SomeIff left (file_length k written_s written_g actions goals ≤ length place) (length place - file_length k written_s written_g actions goals)) none is in
+      wrote_nothing (file_bytes k (raw_of written_s written_g size start actions goals)) place (omega (arith, short, file_long))

@@ -5,21 +5,14 @@ use Rattle.std.specs.Option.{ok_or}
 use Rattle.domain.specs.declared.fault.WriteFault.TheVariants.{Place}
 use Rattle.files.specs.Contents.{header_bytes, file_bytes}
 use Rattle.files.specs.Writing.{raw_of, records_of, file_length}
-use Rattle.files.proofs.WriteSteps.{begun_first, begun_more, begun_all, wrote_as, header, action_records, goal_records, file_parts, file_long, wrote_file, wrote_nothing}
+use Rattle.files.proofs.WriteSteps.{begun_first, begun_more, begun_all, wrote_as, header, action_records, goal_records, file_parts, file_long, wrote_file, file_refused}
 use Rattle.files.proofs.write_file.write_file.Goals as goal
 
 pub returns-in_err-ok_or : goal.returns-in_err-ok_or
 returns-in_err-ok_or g c =
     let a = c.args in
-    let k = a.kind in
-    let ws = g.S.Record.written in
-    let wg = g.G.Record.written in
-    let bytes = file_bytes k (raw_of ws wg a.size a.start a.actions.now a.goals.now) in
-    let long = file_length k ws wg a.actions.now a.goals.now in
-    let place = a.place.now in
     let refusal = c.in_err-ok_or.ensures in
-    let short : long ≤ length place → ⊥ = subst (λ left. SomeIff left (long ≤ length place) (length place - long)) refusal.ok_part c.room_after_file.ensures in
-    let both = wrote_nothing bytes place (omega (arith, short, file_long k ws wg a.size a.start a.actions.now a.goals.now)) in
+    let both = file_refused a.kind g.S.Record.written g.G.Record.written a.size a.start a.actions.now a.goals.now a.place.now _ refusal.ok_part c.room_after_file.ensures in
     let p = err_from_is_err_and c.from_residual.result c.from_residual.ensures.1 in
     let fault = refusal.value ∙ ap (λ left. ok_or left Place) refusal.ok_part in
     record { value = rw (p.1, p.2) (fault ∙ both.0); place = both.1 }

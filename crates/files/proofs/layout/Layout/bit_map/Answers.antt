@@ -5,7 +5,7 @@ use Rattle.std.specs.Slice.Iter.{iter_rest}
 use Rattle.files.specs.Contents.{four_of, bit_map, mark_bit}
 use Rattle.files.specs.Formats.{fields_of}
 use Rattle.files.proofs.Records.{map_small}
-use Rattle.files.proofs.WriteSteps.{map_first, map_of_four, fields_bits, fields_few}
+use Rattle.files.proofs.WriteSteps.{map_more, map_of_four, fields_bits, fields_few}
 use Rattle.files.proofs.layout.Layout.bit_map.Goals as goal
 
 pub loop-field-init : goal.loop-field-init
@@ -24,27 +24,18 @@ loop-field-init g c =
 
 pub overflow_add-map : goal.overflow_add-map
 overflow_add-map g c =
-    let e = g.R.Record.written c.args.item.now in
     let p = c.loop-field in
-    let s = p.field-iterator in
-    let t = c.next.new.self in
     let is = c.in-Some.ensures.steps in
-    let first = ap (λ n. p.bit * n) (map_first (iter_rest (zip_first s)) (iter_rest (zip_first t)) (iter_rest (zip_second s)) (iter_rest (zip_second t)) c.in-Some.field.now c.in-Some.value.now is.0 is.1 (mark_bit c.args.self.part e)) in
-    let here = ap (λ n. p.bit * n) (c.from.ensures ∙ ap from_bool c.is_written.ensures) in
-    omega (arith, first, here, p.invariant.map, map_small c.args.self.kind c.args.self.part e)
+    let more = map_more _ _ _ _ _ _ is.0 is.1 _ p.map p.bit _ _ (c.from.ensures ∙ ap from_bool c.is_written.ensures) p.invariant.map in
+    omega (arith, more, map_small c.args.self.kind c.args.self.part (g.R.Record.written c.args.item.now))
 
 pub loop-field-preserved : goal.loop-field-preserved
 loop-field-preserved g c =
-    let e = g.R.Record.written c.args.item.now in
     let p = c.loop-field in
-    let s = p.field-iterator in
-    let t = c.next.new.self in
     let is = c.in-Some.ensures.steps in
-    let first = ap (λ n. p.bit * n) (map_first (iter_rest (zip_first s)) (iter_rest (zip_first t)) (iter_rest (zip_second s)) (iter_rest (zip_second t)) c.in-Some.field.now c.in-Some.value.now is.0 is.1 (mark_bit c.args.self.part e)) in
-    let here = ap (λ n. p.bit * n) (c.from.ensures ∙ ap from_bool c.is_written.ensures) in
-    let half = ap (λ n. p.bit * 2 ^ n) (ap length is.0) ∙ ap (λ n. p.bit * n) (pow-suc 2 (length (iter_rest (zip_first t)))) in
+    let half = ap (λ n. p.bit * 2 ^ n) (ap length is.0) ∙ ap (λ n. p.bit * n) (pow-suc 2 (length (iter_rest (zip_first c.next.new.self)))) in
     record {
       few = omega (arith, p.invariant.few, ap length is.0, ap length is.1);
       bits = omega (arith, p.invariant.bits, half);
-      map = omega (arith, first, here, p.invariant.map);
+      map = map_more _ _ _ _ _ _ is.0 is.1 _ p.map p.bit _ _ (c.from.ensures ∙ ap from_bool c.is_written.ensures) p.invariant.map;
     }
