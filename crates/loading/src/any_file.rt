@@ -9,6 +9,7 @@ use crate::fault::LoadFault;
 use cards::card::Card;
 use domain::fault::WriteFault;
 use domain::room::Room;
+use files::kind::Kind;
 use maps::field_map::FieldMap;
 use std::alloc::Global;
 
@@ -20,9 +21,10 @@ impl AnyDomain {
         ensures exact { ReadExactly bytes.now }
         ensures same { IfOk result (λ d. domain_file (contents d) ≡ bytes.now) }
     {
-        match bytes {
-            [b'M', ..] => Ok(AnyDomain::Map(FieldMap::read(bytes, Room::take(heap)?)?)),
-            _ => Ok(AnyDomain::Card(Card::read(bytes, Room::take(heap)?)?)),
+        if bytes.first() == Some(&Kind::Map.letter()) {
+            Ok(AnyDomain::Map(FieldMap::read(bytes, Room::take(heap)?)?))
+        } else {
+            Ok(AnyDomain::Card(Card::read(bytes, Room::take(heap)?)?))
         }
     }
 
