@@ -53,8 +53,8 @@ same_limits f = (
     goals_low = l.goals_low;
     goals_high = l.goals_high;
     start_in = l.start_among;
-    actions_good = l.actions_among;
-    goals_good = l.goals_among;
+    actions_valid = l.actions_among;
+    goals_valid = l.goals_among;
   },
   λ v. record {
     fluents_low = v.size_low;
@@ -64,7 +64,7 @@ same_limits f = (
     goals_low = v.goals_low;
     goals_high = v.goals_high;
     start_among = v.start_in;
-    actions_among = v.actions_good;
-    goals_among = v.goals_good;
+    actions_among = v.actions_valid;
+    goals_among = v.goals_valid;
   },
 )

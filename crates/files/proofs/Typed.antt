@@ -46,8 +46,8 @@ module _ {S G : Type 0} (k : Kind) (make_s : Entry → S) (entry_s : S → Entry
             goals_low = omega (arith, length-map f.goals make_g, v.goals_low);
             goals_high = omega (arith, length-map f.goals make_g, v.goals_high);
             start_in = v.start_in;
-            actions_good = all_there (ValidEntry k Action n) (GoodS n) make_s entry_s (c.action_read n v.size_high) f.actions v.actions_valid;
-            goals_good = all_there (ValidEntry k Goal n) (GoodG n) make_g entry_g (c.goal_read n v.size_high) f.goals v.goals_valid;
+            actions_valid = all_there (ValidEntry k Action n) (GoodS n) make_s entry_s (c.action_read n v.size_high) f.actions v.actions_valid;
+            goals_valid = all_there (ValidEntry k Goal n) (GoodG n) make_g entry_g (c.goal_read n v.size_high) f.goals v.goals_valid;
           },
           ap (λ xs. record { size = n; start = f.start; actions = xs; goals = map entry_g (map make_g f.goals) }) (all_back (ValidEntry k Action n) (GoodS n) make_s entry_s (c.action_read n v.size_high) f.actions v.actions_valid)
               ∙ ap (λ ys. record { size = n; start = f.start; actions = f.actions; goals = ys }) (all_back (ValidEntry k Goal n) (GoodG n) make_g entry_g (c.goal_read n v.size_high) f.goals v.goals_valid),
@@ -64,11 +64,11 @@ module _ {S G : Type 0} (k : Kind) (make_s : Entry → S) (entry_s : S → Entry
             goals_low = omega (arith, length-map f.goals entry_g, v.goals_low);
             goals_high = omega (arith, length-map f.goals entry_g, v.goals_high);
             start_in = v.start_in;
-            actions_valid = all_there (GoodS n) (ValidEntry k Action n) entry_s make_s (c.action_written n v.size_high) f.actions v.actions_good;
-            goals_valid = all_there (GoodG n) (ValidEntry k Goal n) entry_g make_g (c.goal_written n v.size_high) f.goals v.goals_good;
+            actions_valid = all_there (GoodS n) (ValidEntry k Action n) entry_s make_s (c.action_written n v.size_high) f.actions v.actions_valid;
+            goals_valid = all_there (GoodG n) (ValidEntry k Goal n) entry_g make_g (c.goal_written n v.size_high) f.goals v.goals_valid;
           },
-          ap (λ xs. record { size = n; start = f.start; actions = xs; goals = map make_g (map entry_g f.goals) }) (all_back (GoodS n) (ValidEntry k Action n) entry_s make_s (c.action_written n v.size_high) f.actions v.actions_good)
-              ∙ ap (λ ys. record { size = n; start = f.start; actions = f.actions; goals = ys }) (all_back (GoodG n) (ValidEntry k Goal n) entry_g make_g (c.goal_written n v.size_high) f.goals v.goals_good),
+          ap (λ xs. record { size = n; start = f.start; actions = xs; goals = map make_g (map entry_g f.goals) }) (all_back (GoodS n) (ValidEntry k Action n) entry_s make_s (c.action_written n v.size_high) f.actions v.actions_valid)
+              ∙ ap (λ ys. record { size = n; start = f.start; actions = f.actions; goals = ys }) (all_back (GoodG n) (ValidEntry k Goal n) entry_g make_g (c.goal_written n v.size_high) f.goals v.goals_valid),
         )
 
     pub parts_read : (bs : List ℕ) → ReadExactly k bs → (f : File S G) → file_with make_s make_g (read_file k bs) ≡ Ok f → Valid f × (bs ≡ file_bytes k (bare f))

@@ -79,7 +79,8 @@ InRange size (f ∷ fs) (v ∷ vs) = (v < limit_of size f) × InRange size fs vs
 abbrev pub ValidEntry : Kind → Part → ℕ → Entry → Type 0
 ValidEntry k p size e = InRange size (fields_of k p) e.values × ((is_markable p && e.marked) ≡ e.marked)
 
-pub record ValidFile (k : Kind) (f : RawFile) : Type 0 where
+-- the counts are within limits, and the start, actions and goals are ones that a domain of that size may have
+pub record ValidWith {S G : Type 0} (k : Kind) (ValidS : ℕ → S → Type 0) (ValidG : ℕ → G → Type 0) (f : File S G) : Type 0 where
   pub size_low : 1 ≤ f.size
   pub size_high : f.size ≤ most_of k
   pub actions_low : 1 ≤ length f.actions
@@ -87,5 +88,8 @@ pub record ValidFile (k : Kind) (f : RawFile) : Type 0 where
   pub goals_low : 1 ≤ length f.goals
   pub goals_high : length f.goals ≤ 32
   pub start_in : f.start < limit_of f.size (start_of k)
-  pub actions_valid : All (ValidEntry k Action f.size) f.actions
-  pub goals_valid : All (ValidEntry k Goal f.size) f.goals
+  pub actions_valid : All (ValidS f.size) f.actions
+  pub goals_valid : All (ValidG f.size) f.goals
+
+abbrev pub ValidFile : Kind → RawFile → Type 0
+ValidFile k f = ValidWith k (ValidEntry k Action) (ValidEntry k Goal) f

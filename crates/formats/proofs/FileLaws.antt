@@ -1,11 +1,10 @@
 -- Reading and writing the parts of a domain are inverse to each other.
-use Rattle.std.proofs.Common.{◌≡◌, ◌↔◌, ℕ, List, Ok, Result, sym, ap, ◌∙◌, subst}
-use Rattle.domain.specs.declared.fault.ReadFault.{ReadFault}
+use Rattle.std.proofs.Common.{◌≡◌, ◌↔◌, ℕ, List, Ok, sym, refl, ap, ◌∙◌, subst}
 use Rattle.files.specs.declared.kind.Kind.{Kind}
 use Rattle.files.specs.Contents.{Entry, File}
 use Rattle.files.specs.Exact as files
 use Rattle.files.specs.Parts.{Converts, ValidParts}
-pub use Rattle.files.proofs.Outcomes.{known_ok}
+use Rattle.files.proofs.Outcomes.{known_ok}
 use Rattle.files.proofs.Typed.{parts_read, parts_written}
 use Rattle.formats.specs.Files.{parts_file, read_parts, known_as, ReadExactly}
 
@@ -24,15 +23,24 @@ module _ {S G : Type 0} {k : Kind} {make_s : Entry → S} {entry_s : S → Entry
   pub parts_known : (j : Kind) → j ≡ k → (bs : List ℕ) → files.ReadExactly j bs → (f : File S G) → Ok f ≡ read_parts j make_s make_g bs → Limits f × (bs ≡ parts_file k entry_s entry_g f)
   parts_known j is bs exact f e = (parts_exactly j is bs exact).only f (sym (e ∙ ap (λ k. read_parts k make_s make_g bs) is))
 
--- what was read, told in other words
-module _ {X Y : Type 0} (words : X → Y) where
-  -- bytes are then read exactly when they are the file of that
-  pub known_exactly : (read : List ℕ → Result X ReadFault) (file : Y → List ℕ) (Limits : Y → Type 0) (bs : List ℕ) (back : Y → X) → ((y : Y) → words (back y) ≡ y)
-      → ReadExactly read (λ x. file (words x)) (λ x. Limits (words x)) bs → ReadExactly (λ bs. known_as words (read bs)) file Limits bs
-  known_exactly read file Limits bs back there exact = record {
-    only = λ y e. let was = known_ok words (read bs) y e in subst (λ y. Limits y × (bs ≡ file y)) was.2 (exact.only was.0 was.1);
-    every = λ y l e. ap (known_as words) (exact.every (back y) (subst Limits (there' y) l) (e ∙ ap file (there' y))) ∙ ap Ok (there y);
-  }
-    where
-      there' : (y : Y) → y ≡ words (back y)
-      there' y = sym (there y)
+-- C is a domain in its own words, which are made of its parts and its parts of them
+module _ {S G C : Type 0} (words : File S G → C) (parts : C → File S G) (to_words : (c : C) → words (parts c) ≡ c) (to_parts : (f : File S G) → parts (words f) ≡ f) (InLimits : C → Type 0) where
+  module _ (k : Kind) (make_s : Entry → S) (entry_s : S → Entry) (make_g : Entry → G) (entry_g : G → Entry) where
+    -- the law of reading, from that of the parts
+    pub told_exactly : (bs : List ℕ) → ReadExactly (read_parts k make_s make_g) (parts_file k entry_s entry_g) (λ f. InLimits (words f)) bs
+        → ReadExactly (λ bs. known_as words (read_parts k make_s make_g bs)) (λ c. parts_file k entry_s entry_g (parts c)) InLimits bs
+    told_exactly bs exact = record {
+      only = λ c e.
+          let was = known_ok words (read_parts k make_s make_g bs) c e in
+          let law = exact.only was.0 was.1 in
+          subst (λ c. InLimits c × (bs ≡ parts_file k entry_s entry_g (parts c))) was.2 (law.0, law.1 ∙ ap (parts_file k entry_s entry_g) (sym (to_parts was.0)));
+      every = λ c l e. ap (known_as words) (exact.every (parts c) (subst InLimits (sym (to_words c)) l) e) ∙ ap Ok (to_words c);
+    }
+
+  module _ {k : Kind} {make_s : Entry → S} {entry_s : S → Entry} {make_g : Entry → G} {entry_g : G → Entry} {GoodS : ℕ → S → Type 0} {GoodG : ℕ → G → Type 0} (converts : Converts k make_s entry_s make_g entry_g GoodS GoodG) (same : (f : File S G) → InLimits (words f) ↔ ValidParts k make_s entry_s make_g entry_g GoodS GoodG f) where
+    -- a domain that is written is read again
+    pub told_again : (c : C) → InLimits c → known_as words (read_parts k make_s make_g (parts_file k entry_s entry_g (parts c))) ≡ Ok c
+    told_again c l = ap (known_as words) (parts_again converts same (parts c) (subst InLimits (sym (to_words c)) l)) ∙ ap Ok (to_words c)
+
+    pub all_exactly : (bs : List ℕ) → files.ReadExactly k bs → ReadExactly (λ bs. known_as words (read_parts k make_s make_g bs)) (λ c. parts_file k entry_s entry_g (parts c)) InLimits bs
+    all_exactly bs exact = told_exactly k make_s entry_s make_g entry_g bs (parts_exactly converts same k refl bs exact)

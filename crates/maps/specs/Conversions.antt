@@ -66,8 +66,8 @@ same_limits f = (
     goals_low = l.goals_low;
     goals_high = l.goals_high;
     start_in = l.start_among;
-    actions_good = l.moves_among;
-    goals_good = l.goals_among;
+    actions_valid = l.moves_among;
+    goals_valid = l.goals_among;
   },
   λ v. record {
     places_low = v.size_low;
@@ -77,7 +77,7 @@ same_limits f = (
     goals_low = v.goals_low;
     goals_high = v.goals_high;
     start_among = v.start_in;
-    moves_among = v.actions_good;
-    goals_among = v.goals_good;
+    moves_among = v.actions_valid;
+    goals_among = v.goals_valid;
   },
 )
