@@ -5,8 +5,8 @@ use Rattle.cards.specs.declared.card.Card.{Card}
 use Rattle.cards.specs.Limits.{card_of}
 pub use Rattle.cards.specs.Limits.{Contents, InLimits}
 
--- A function, and no model of the type: for the law of limits a model would hold them beside what the card holds,
--- and clauses would say `self.now.contents` where they say `contents self.now`.
+-- A function, and no model of the type: reading and the law of limits are defined by `Contents`,
+-- and a value whose own fields were these would be no such record, so that clauses would have to convert it.
 abbrev pub contents : Card → Contents
 contents c = card_of (contents_of c.parts.file)
 

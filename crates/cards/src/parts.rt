@@ -7,6 +7,7 @@ use crate::action::Action;
 use crate::card::Card;
 use fluents::FluentSet;
 
+// Each asks the parts, as a map's do; the two stay, since each is told in the words of its kind. The text of both is in `Parts`.
 impl Card {
     // The actions, in the order of their numbers.
     pub fn actions(&self) -> &[Action]

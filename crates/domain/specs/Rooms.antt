@@ -9,5 +9,6 @@ outcome_in words (Ok x) = Ok (words x)
 outcome_in words (Err u) = Err u.fault
 
 -- a room is always empty, so only its width can differ
+-- Contracts say this beside a result, since the type `Unfilled` cannot name the room that was handed over.
 abbrev pub SameRoom : {S G : Type 0} → Room S G → Room S G → Type 0
 SameRoom r s = (vec_capacity s.actions ≡ vec_capacity r.actions) × (vec_capacity s.goals ≡ vec_capacity r.goals)

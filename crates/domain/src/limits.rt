@@ -1,4 +1,5 @@
 // The limits of every domain, for code; its meaning has them as `Limits`.
+// Public clauses, invariants and specs state them as numbers, since those are the definitions; code has the names, so a constant that is changed is refused.
 
 pub const MOST_ACTIONS: u8 = 120;
 

@@ -33,6 +33,7 @@ fn read_count(bytes: &[u8], byte: usize, most: u8) -> Result<u8, ReadFault>
 
 impl Header {
     // The header of a file of so many actions and goals; each count takes one byte.
+    // The remainder is asked for, since the check takes `as` only where the number fits.
     pub(crate) fn new(size: u8, actions: usize, goals: usize, start: u64) -> Header
         ensures { result ≡ record { size = size; actions = actions % 256; goals = goals % 256; start = start } }
     {

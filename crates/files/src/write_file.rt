@@ -47,6 +47,7 @@ fn write_parts<R: Record>(layout: Layout, items: &[R], place: &mut [u8]) -> usiz
 }
 
 // The file into the front of the place; the answer is how many bytes it takes.
+// Its parts are handed over one by one: a file owns its vectors, and a struct that borrows them would be one more type for one call.
 pub fn write_file<S: Record, G: Record>(
     kind: Kind,
     size: u8,

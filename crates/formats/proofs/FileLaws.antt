@@ -1,5 +1,6 @@
 -- Reading and writing the parts of a domain are inverse to each other.
 use Rattle.std.proofs.Common.{◌≡◌, ◌↔◌, ℕ, List, Ok, sym, refl, ap, ◌∙◌, subst}
+use Rattle.std.proofs.Math.Logic.{∥∥₁_elim}
 use Rattle.files.specs.declared.kind.Kind.{Kind}
 use Rattle.files.specs.Contents.{Entry, File}
 use Rattle.files.specs.Exact as files
@@ -44,3 +45,7 @@ module _ {S G C : Type 0} (words : File S G → C) (parts : C → File S G) (to_
 
     pub all_exactly : (bs : List ℕ) → files.ReadExactly k bs → ReadExactly (λ bs. known_as words (read_parts k make_s make_g bs)) (λ c. parts_file k entry_s entry_g (parts c)) InLimits bs
     all_exactly bs exact = told_exactly k make_s entry_s make_g entry_g bs (parts_exactly converts same k refl bs exact)
+
+-- limits out of their truncation, where they have one proof at most
+pub limits_out : {P : Type 0} → IsProp P → ∥ P ∥₁ → P
+limits_out one l = ∥∥₁_elim l one (λ l. l)

@@ -7,6 +7,7 @@ use crate::field_map::FieldMap;
 use crate::moves::Move;
 use crate::place::Place;
 
+// Each asks the parts, as a card's do; the two stay, since each is told in the words of its kind. The text of both is in `Parts`.
 impl FieldMap {
     // How many places there are.
     pub fn places(&self) -> u8
