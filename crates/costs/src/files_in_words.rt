@@ -2,12 +2,11 @@
 use crate::costs_in_words::say_costs;
 use crate::lists_in_words::judge_list;
 use loading::any_domain::AnyDomain;
-use loading::fault::LoadFault;
 use reports::folders::bytes_or_empty;
 use reports::refusal::Refusal;
 
 // A domain's file that is missing stands for an empty one.
-// by hand: a function shared by the programs would take a closure, and need a requires that it can be called
+// not shared with `describe`: a function for both would be public and take a closure, so it would need a requires that it can be called
 pub(crate) fn say_folder(rt: &HostRuntime, folder: &str) -> anyhow::Result<()> {
     let bytes = bytes_or_empty(rt, folder, "domain.bin")?;
     println!(rt; "{folder}")?;
@@ -16,8 +15,7 @@ pub(crate) fn say_folder(rt: &HostRuntime, folder: &str) -> anyhow::Result<()> {
             say_costs(rt, &domain)?;
             judge_list(rt, folder, &domain)?;
         }
-        Err(LoadFault::Read(fault)) => println!(rt; "  {}", Refusal(fault))?,
-        Err(LoadFault::Room(fault)) => return Err(fault.into()),
+        Err(fault) => println!(rt; "  {}", Refusal(fault.of_file()?))?,
     }
     Ok(())
 }

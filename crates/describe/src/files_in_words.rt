@@ -2,7 +2,6 @@
 use crate::domains_in_words::say_domain;
 use domain::fault::{Numbered, WriteFault};
 use loading::any_domain::AnyDomain;
-use loading::fault::LoadFault;
 use reports::folders::bytes_or_empty;
 use reports::refusal::Refusal;
 
@@ -41,14 +40,13 @@ fn say_file(rt: &HostRuntime, bytes: &[u8], domain: &AnyDomain) -> anyhow::Resul
 }
 
 // A file that is missing stands for an empty one.
-// by hand: a function shared by the programs would take a closure, and need a requires that it can be called
+// not shared with `costs`: a function for both would be public and take a closure, so it would need a requires that it can be called
 pub(crate) fn describe(rt: &HostRuntime, folder: &str) -> anyhow::Result<()> {
     let bytes = bytes_or_empty(rt, folder, "domain.bin")?;
     println!(rt; "{folder}")?;
     match AnyDomain::read(rt.alloc(), bytes.as_slice()) {
         Ok(domain) => say_file(rt, bytes.as_slice(), &domain)?,
-        Err(LoadFault::Read(fault)) => println!(rt; "  {}", Refusal(fault))?,
-        Err(LoadFault::Room(fault)) => return Err(fault.into()),
+        Err(fault) => println!(rt; "  {}", Refusal(fault.of_file()?))?,
     }
     Ok(())
 }

@@ -1,6 +1,6 @@
 // Why no domain is loaded.
 ghost use Rattle.std.specs.Prelude.{◌≡◌};
-ghost use Rattle.loading.specs.Faults.{load_number};
+ghost use Rattle.loading.specs.Faults.{load_number, file_fault};
 ghost use Rattle.loading.specs.declared.fault.LoadFault.TheVariants as fault;
 
 use domain::fault::{Numbered, ReadFault, RoomFault};
@@ -12,6 +12,18 @@ pub enum LoadFault {
     Room(RoomFault),
     // the bytes are no domain's file
     Read(ReadFault),
+}
+
+impl LoadFault {
+    // The fault of the file, or else the error that there was no memory.
+    pub fn of_file(self) -> Result<ReadFault, RoomFault>
+        ensures { result ≡ file_fault self }
+    {
+        match self {
+            LoadFault::Room(fault) => Err(fault),
+            LoadFault::Read(fault) => Ok(fault),
+        }
+    }
 }
 
 impl Numbered for LoadFault {

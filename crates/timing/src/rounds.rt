@@ -4,7 +4,6 @@ use anyhow::anyhow;
 use domain::Domain;
 use domain::fault::Numbered;
 use loading::any_domain::AnyDomain;
-use loading::fault::LoadFault;
 use std::fs;
 use tables::tables::Tables;
 use watched::watched::Watched;
@@ -19,6 +18,7 @@ fn say_round<D: Domain>(rt: &HostRuntime, domain: &D, tables: &mut Tables) -> an
 }
 
 // Searches for every goal in every round; the answers of the last round are printed.
+// a loop for the rounds that are not printed: a function for both would take a closure, and need a requires that it can be called
 fn search_rounds<D: Domain>(rt: &HostRuntime, domain: &D, rounds: u32) -> anyhow::Result<()> {
     let mut tables = Tables::take(rt.alloc(), Tables::MOST)?;
     for _ in 1..rounds {
@@ -38,10 +38,9 @@ pub(crate) fn search_file(rt: &HostRuntime, folder: &str, rounds: u32) -> anyhow
     let bytes = fs::read(rt, path.as_str())?;
     match AnyDomain::read(rt.alloc(), bytes.as_slice()) {
         Ok(domain) => search_rounds(rt, &Watched::new(domain), rounds),
-        Err(LoadFault::Read(fault)) => {
-            let number = fault.number();
+        Err(fault) => {
+            let number = fault.of_file()?.number();
             Err(anyhow!("domain.bin is refused with {number}"))
         }
-        Err(LoadFault::Room(fault)) => Err(fault.into()),
     }
 }
