@@ -69,7 +69,7 @@ impl<D: Domain> Judged<'_, D> {
     }
 }
 
-// The states that the first actions of a list lead through, from the start on. It is no `Row`, since they stand in no slice.
+// The states that the first actions of a list lead through, from the start on. It is no `Row`: they stand in no slice, and `Row` takes no iterator, since printing is lent what it prints and an iterator is used up by it.
 #[derive(Drop)]
 struct Through<'a, D> {
     judged: &'a Judged<'a, D>,

@@ -6,7 +6,7 @@ use domain::Domain;
 use fluents::FluentSet;
 use std::fmt;
 
-// The fluents of a set that are below the width, in order. It is no `Row`, since they stand in no slice.
+// The fluents of a set that are below the width, in order. It is no `Row`: they stand in no slice, and `Row` takes no iterator, since printing is lent what it prints and an iterator is used up by it.
 #[derive(Clone, Copy)]
 pub(crate) struct Fluents {
     width: u8,

@@ -19,6 +19,7 @@ pub fn carried(log: &ObservationLog, list: &[u8], places: &mut [usize]) -> Resul
     if places.len() < log.len() {
         return Err(CarryFault::Place);
     }
+    // by an index: not every action takes a place, and the count is the answer; `get_mut(count)` would add a case that never comes
     let mut count = 0;
     for (place, action) in list.iter().enumerate() {
         let grown = log.advance(count, *action);

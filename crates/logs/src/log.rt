@@ -5,7 +5,7 @@ use crate::following;
 use domain::fault::LogFault;
 
 // The numbers of the actions that were seen, in their order; at most 20, in a fixed table, so that no entry fails for want of memory.
-// Ghost fields and no model: the log is copied, and a model of what is copied gives its fields back, which the entries do not.
+// Ghost fields and no model: the log is `Copy`, which callers may use, and a model of what is copied gives its fields back, which the entries do not.
 #[derive(Clone, Copy)]
 pub struct ObservationLog {
     pub(crate) table: [u8; ObservationLog::MOST],
@@ -71,7 +71,7 @@ impl ObservationLog {
         self.as_slice().get(place).copied()
     }
 
-    // Whether the action is one of the entries.
+    // Whether the action is one of the entries. `following::may_run` asks the same of a slice, since a watched domain follows a slice.
     pub fn occurs(&self, action: u8) -> bool
         ensures { result ≡ occurs action (entries self.now) }
     {

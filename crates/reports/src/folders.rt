@@ -27,6 +27,7 @@ pub fn bytes_in<R: Files + AllocGlobal>(
     ensures { IfErr result (λ error. error_kind error ≢ NotFound) }
 {
     let path = format!(in rt.alloc(); "{folder}/{name}")?;
+    // a match and no `?`, which would hand every error on: a missing file is none
     match fs::read(rt, path.as_str()) {
         Ok(bytes) => Ok(Some(bytes)),
         Err(error) if error.kind() == ErrorKind::NotFound => Ok(None),

@@ -10,6 +10,9 @@ use domain::Domain;
 use domain::limits::MOST_WIDTH_BELOW;
 use logs::following::{advance, may_run};
 
+// The bits of a count: a log has at most 20 entries.
+const COUNT_BITS: u8 = 5;
+
 impl<D: Domain> Watched<D> {
     // Whether the domain leaves room for a count of entries.
     pub(crate) fn is_narrow(&self) -> bool
@@ -18,11 +21,11 @@ impl<D: Domain> Watched<D> {
         self.domain.width() <= MOST_WIDTH_BELOW
     }
 
-    // How many bits a state has: those of the domain, and five for the count where there is room.
+    // How many bits a state has: those of the domain, and those of the count where there is room.
     fn bits(&self) -> u8
         ensures { result ≡ (D.meaning self.now.domain).width + extra_bits (D.meaning self.now.domain) }
     {
-        self.domain.width() + if self.is_narrow() { 5 } else { 0 }
+        self.domain.width() + if self.is_narrow() { COUNT_BITS } else { 0 }
     }
 
     // The entries that are followed: none over a domain that is too wide.
