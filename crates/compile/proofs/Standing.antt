@@ -1,5 +1,5 @@
 -- A goal stands on a card with a log exactly when two goals of the compiled card have a common least cost.
-use Rattle.std.proofs.Common.{◌≡◌, ℕ, ◌+◌, ◌<◌, ◌≤◌, List, length, Some, Ok, Err, Result, refl, ap, ◌∙◌, subst, ⊎_elim, arith}
+use Rattle.std.proofs.Common.{◌≡◌, ℕ, ◌+◌, ◌<◌, ◌≤◌, List, length, Some, refl, ap, ◌∙◌, subst, ⊎_elim, arith}
 use Rattle.std.proofs.lemmas.Bool.{cases_lt, lt-ltb, eq-eqb, cond-true, both_ways}
 use Rattle.domain.specs.Meaning.{Meaning}
 use Rattle.files.proofs.Outcomes.{known_ok}

@@ -1,7 +1,7 @@
 // The actions and the goals of a compiled card.
-ghost use Rattle.std.specs.Prelude.{◌≡◌, ◌<◌, length, slice_index};
-ghost use Rattle.cards.specs.Cards.{action_at, goal_at};
-ghost use Rattle.compile.specs.Compiled.{union, effect, mark, marks, mark_before, own_action, copy, with_log};
+ghost use Rattle.std.specs.Prelude.{◌≡◌, ◌<◌, length};
+ghost use Rattle.cards.specs.Cards.{goal_at};
+ghost use Rattle.compile.specs.Compiled.{union, effect, mark, marks, own_action, copy, with_log};
 
 use crate::accepted::Accepted;
 use cards::action::Action;
@@ -23,28 +23,11 @@ impl Accepted<'_> {
         self.log.len() as u8
     }
 
-    // The entry at a place.
-    fn entry(&self, place: u8) -> u8
-        requires { place < length self.now.log }
-        ensures { result ≡ slice_index self.now.log place }
-    {
-        self.log.entry(usize::from(place)).unwrap()
-    }
-
-    // The card's action of a number.
-    fn action(&self, number: u8) -> Action
-        requires { number < length self.now.card.actions }
-        ensures { result ≡ action_at self.now.card number }
-    {
-        self.card.action(number).unwrap()
-    }
-
-    // The card's goal of a number.
+    // The card's goal of a number, and the empty set where it has none, as in the specification.
     pub(crate) fn goal(&self, number: u8) -> FluentSet
-        requires { number < length self.now.card.goals }
         ensures { result ≡ goal_at self.now.card number }
     {
-        self.card.goal(number).unwrap()
+        self.card.goal(number).unwrap_or(FluentSet::default())
     }
 
     // The mark of an entry.
@@ -67,18 +50,6 @@ impl Accepted<'_> {
         set
     }
 
-    // The mark of the entry before, and nothing before the first one.
-    fn mark_before(&self, place: u8) -> FluentSet
-        requires { place < length self.now.log }
-        ensures { result ≡ mark_before self.now.card place }
-    {
-        if place == 0 {
-            FluentSet::default()
-        } else {
-            self.mark(place - 1)
-        }
-    }
-
     // What is left of what an action adds or deletes: nothing where the log does not let the action run.
     fn effect(&self, number: u8, marked: bool, set: FluentSet) -> FluentSet
         ensures { result ≡ effect self.now.log number marked set }
@@ -95,7 +66,7 @@ impl Accepted<'_> {
         requires { number < length self.now.card.actions }
         ensures { result ≡ own_action self.now.card self.now.log number }
     {
-        let own = self.action(number);
+        let own = self.card.action(number).unwrap();
         Action {
             adds: self.effect(number, own.marked, own.adds),
             deletes: self.effect(number, own.marked, own.deletes),
@@ -109,9 +80,16 @@ impl Accepted<'_> {
         requires { place < length self.now.log }
         ensures { result ≡ copy self.now.card self.now.log place }
     {
-        let own = self.action(self.entry(place));
+        let entry = self.log.entry(usize::from(place)).unwrap();
+        let own = self.card.action(entry).unwrap();
+        // the mark of the entry before, and nothing before the first one
+        let before = if place == 0 {
+            FluentSet::default()
+        } else {
+            self.mark(place - 1)
+        };
         Action {
-            needs: union(own.needs, self.mark_before(place)),
+            needs: union(own.needs, before),
             adds: union(own.adds, self.mark(place)),
             marked: false,
             ..own
@@ -120,7 +98,6 @@ impl Accepted<'_> {
 
     // The card's goal of a number, together with the log.
     pub(crate) fn with_log(&self, number: u8) -> FluentSet
-        requires { number < length self.now.card.goals }
         ensures { result ≡ with_log self.now.card self.now.log (goal_at self.now.card number) }
     {
         union(self.goal(number), self.marks())
