@@ -8,7 +8,7 @@ use cards::action::Action;
 use domain::Domain;
 use fluents::FluentSet;
 
-// The fluents of either set.
+// The fluents of either set. `FluentSet::with` promises which fluents these are; here it is an equality with the specification.
 fn union(a: FluentSet, b: FluentSet) -> FluentSet
     ensures { result ≡ union a b }
 {
@@ -43,7 +43,7 @@ impl Accepted<'_> {
         ensures { result ≡ marks self.now.card (length self.now.log) }
     {
         let mut set = FluentSet::default();
-        // by a loop: the check does not find what a fold over a range of numbers gives
+        // by a loop: tried as a fold over the numbers, which leaves the goal open that its result is the marks
         for place in 0..self.entry_count() {
             set = union(set, self.mark(place));
         }
