@@ -145,3 +145,7 @@ pub record Expanded (m : Meaning) (before : Stage) (i actions : ℕ) (after : St
 -- the first actions are offered from row i, or that is refused where more states can be reached than there are rows
 abbrev pub Expands : {X : Type 0} → Meaning → Stage → ℕ → ℕ → Stage → Result X SearchFault → Type 0
 Expands m before i actions after result = MatchResult result (λ done. Expanded m before i actions after) (λ fault. (fault ≡ Rows) × MoreThan m (length before.rows))
+
+-- action a is offered from row i, whose node is v, once the actions before it are offered
+abbrev pub OffersNext : {X : Type 0} → Meaning → ℕ → Node → ℕ → Stage → Stage → Result X SearchFault → Type 0
+OffersNext m i v a now after result = (before : Stage) → SettledRow before i v → Expanded m before i a now → Expands m before i (a + 1) after result

@@ -36,6 +36,7 @@ fn answer<D: Domain>(
     let (without, with) = cheapest_ends(domain, rows, known, goal);
     let cost_of = |row: usize| rows[row].node.cost;
     let costs = (without.map(cost_of), with.map(cost_of));
+    // a match: the contract of `map_or` leaves open what a place holds that the closure borrows, where there is no row
     let length = match with.or(without) {
         Some(row) => write_plan(rows, row, plan),
         None => 0,

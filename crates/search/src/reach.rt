@@ -7,7 +7,7 @@ use crate::entry::Entry;
 use crate::fault::SearchFault;
 use crate::progress::Progress;
 use heap::{lower, push};
-use table::index::{add, find};
+use table::index::{add, find, put};
 use table::row::{Node, Row};
 
 // The first way to a state: it gets a row, and waits. It is refused where the table is full.
@@ -33,7 +33,7 @@ fn improve(rows: &mut [Row], list: &mut [Entry], progress: Progress, row: usize,
     ensures { Dearer (stage_of rows.old list.old progress) row way.now → TakesWay (stage_of rows.old list.old progress) way.now (stage_of rows.new list.new progress) (Ok (tt {0})) }
 {
     let place = rows[row].place;
-    rows[row].node = *way;
+    put(rows, row, *way);
     lower(list, progress.waiting, place, Entry::new(row, way), rows);
 }
 

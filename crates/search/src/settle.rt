@@ -1,7 +1,7 @@
 // One state is settled: it is taken from the waiting list, and what its actions lead to is offered to the table.
-ghost use Rattle.std.specs.Prelude.{◌+◌, ◌*◌, ◌<◌, ◌≤◌, length, take};
+ghost use Rattle.std.specs.Prelude.{◌*◌, ◌<◌, ◌≤◌, length, take};
 ghost use Rattle.table.specs.Rows.{node};
-ghost use Rattle.search.specs.Searching.{Stage, stage_of, Searching, Waiting, TakesNext, SettledRow, Expanded, Expands};
+ghost use Rattle.search.specs.Searching.{stage_of, Searching, Waiting, TakesNext, SettledRow, Expands, OffersNext};
 
 use crate::entry::Entry;
 use crate::fault::SearchFault;
@@ -11,6 +11,7 @@ use crate::reach::reach;
 use domain::Domain;
 use domain::limits::MOST_COST;
 use heap::take_least;
+use table::index::put;
 use table::row::{Node, Row, Step};
 
 // The row of a cheapest state that waits, which is now settled; none where no state waits.
@@ -25,7 +26,9 @@ pub(crate) fn take_next(
 {
     let (entry, waiting) = take_least(list, progress.waiting, rows)?;
     progress.waiting = waiting;
-    rows[entry.row].node.settled = true;
+    let mut node = rows[entry.row].node;
+    node.settled = true;
+    put(rows, entry.row, node);
     Some(entry.row)
 }
 
@@ -39,8 +42,10 @@ fn offer<D: Domain>(
     here: &Node,
     action: u8,
 ) -> Result<(), SearchFault>
-    requires { (progress.old.known ≤ length rows.old) × (here.now.cost ≤ MOST_COST * MOST_ROWS) × (here.now.steps < MOST_ROWS) }
-    ensures { (before : Stage) → SettledRow before row here.now → Expanded (D.meaning domain.now) before row action (stage_of rows.old list.old progress.old) → Expands (D.meaning domain.now) before row (action + 1) (stage_of rows.new list.new progress.new) result }
+    requires known { progress.old.known ≤ length rows.old }
+    requires cost { here.now.cost ≤ MOST_COST * MOST_ROWS }
+    requires steps { here.now.steps < MOST_ROWS }
+    ensures { OffersNext (D.meaning domain.now) row here.now action (stage_of rows.old list.old progress.old) (stage_of rows.new list.new progress.new) result }
 {
     let state = domain.next(here.state, action);
     if state == here.state {
