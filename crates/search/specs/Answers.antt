@@ -12,6 +12,10 @@ pub record Sizes : Type 0 where
   pub waiting : ℕ
   pub places : ℕ
 
+-- the sizes of a table, a waiting list and a plan place
+abbrev pub sizes_of : {X Y : Type 0} → List X → List Y → List ℕ → Sizes
+sizes_of table waiting plan = record { rows = length table; waiting = length waiting; places = length plan }
+
 -- a table of 1 to 4096 rows, and a waiting list and a plan place that are no shorter
 pub record Suited (s : Sizes) : Type 0 where
   pub some : 1 ≤ s.rows

@@ -1,7 +1,7 @@
 // The pair of least costs, and a cheapest plan.
 ghost use Rattle.std.specs.Prelude.{◌≡◌, ◌≤◌, ◌↔◌, length, IsTrue};
 ghost use Rattle.table.specs.Rows.{node};
-ghost use Rattle.search.specs.Answers.{Suited, Found, Answered, TablesStay};
+ghost use Rattle.search.specs.Answers.{sizes_of, Suited, Found, Answered, TablesStay};
 ghost use Rattle.search.specs.Solved.{Solved};
 
 use crate::ends::cheapest_ends;
@@ -54,7 +54,7 @@ pub fn least_costs<D: Domain>(
     waiting: &mut [Entry],
     plan: &mut [u8],
 ) -> Result<((Option<u32>, Option<u32>), usize), SearchFault>
-    ensures answered { Answered (D.meaning domain.now) goal (record { rows = length table.old; waiting = length waiting.old; places = length plan.old }) plan.old plan.new result }
+    ensures answered { Answered (D.meaning domain.now) goal (sizes_of table.old waiting.old plan.old) plan.old plan.new result }
     ensures tables { TablesStay result (table.new ≡ table.old) }
     ensures waiting { TablesStay result (waiting.new ≡ waiting.old) }
 {

@@ -1,29 +1,18 @@
--- What a search in tables promises: what every search does that is lent tables of this size.
-use Rattle.std.specs.Prelude.{◌≡◌, ℕ, ◌<◌, ◌≤◌, List, length, Ok, Err, Option, Result}
+-- What a search in tables promises: what every search does that is lent their places.
+use Rattle.std.specs.Prelude.{◌≡◌, ℕ, Ok, Err, Option, Result, ◌≢◌}
 use Rattle.domain.specs.Meaning.{Meaning}
-use Rattle.plans.specs.Plans.{PlanFor, CompletePlan, LeastCost}
-use Rattle.plans.specs.Reachable.{AtMost, MoreThan}
-use Rattle.search.specs.Answers.{RepeatsNone, ShownKind}
+use Rattle.search.specs.Answers as lent
 use Rattle.search.specs.declared.fault.SearchFault.{SearchFault}
-use Rattle.search.specs.declared.fault.SearchFault.TheVariants.{Goal, Tables, Rows}
+use Rattle.search.specs.declared.fault.SearchFault.TheVariants as faults
+use Rattle.tables.specs.declared.tables.Tables.{Tables}
+use Rattle.tables.specs.Parts.{row_count, place_of, plan_of}
 
--- a search in tables is refused for the goal, or since more states can be reached than there are rows
-abbrev pub Refused : Meaning → ℕ → ℕ → SearchFault → Type 0
-Refused m goal rows Goal = m.goals ≤ goal
-Refused m goal rows Tables = ⊥
-Refused m goal rows Rows = (goal < m.goals) × MoreThan m rows
+-- the waiting list and the plan place are as long as the rows
+abbrev pub sizes : ℕ → lent.Sizes
+sizes rows = record { rows = rows; waiting = rows; places = rows }
 
--- the two least costs, and the plan that is shown
-pub record Found (m : Meaning) (goal rows : ℕ) (without with : Option ℕ) (plan : List ℕ) : Type 0 where
-  pub is_goal : goal < m.goals
-  pub reachable : AtMost m rows
-  pub least : LeastCost m (PlanFor m goal) without
-  pub least_complete : LeastCost m (CompletePlan m goal) with
-  pub kind : ShownKind m goal without with plan
-  pub repeats_none : RepeatsNone m plan
-  pub short : length plan < rows
-
--- the answer, with the plans that are shown before and after; a refusal leaves the plan as it was
-abbrev pub Answered : Meaning → ℕ → ℕ → List ℕ → List ℕ → Result (Option ℕ × Option ℕ) SearchFault → Type 0
-Answered m goal rows before after (Ok costs) = Found m goal rows costs.0 costs.1 after
-Answered m goal rows before after (Err fault) = Refused m goal rows fault × (after ≡ before)
+-- the answer, with the tables before and after: the costs, and the plan that is shown then.
+-- A search in tables is never refused for their sizes, and a refusal leaves the plan that was shown.
+abbrev pub Answered : Meaning → ℕ → Tables → Tables → Result (Option ℕ × Option ℕ) SearchFault → Type 0
+Answered m goal before after (Ok costs) = lent.Answered m goal (sizes (row_count before)) (place_of before) (place_of after) (Ok (costs, after.shown))
+Answered m goal before after (Err fault) = lent.Answered m goal (sizes (row_count before)) (place_of before) (place_of after) (Err fault) × (fault ≢ faults.Tables) × (plan_of after ≡ plan_of before)

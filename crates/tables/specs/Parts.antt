@@ -14,6 +14,9 @@ rows_of t = vec_items t.rows
 abbrev pub waiting_of : Tables → List Entry
 waiting_of t = vec_items t.waiting
 
--- the plan that the last search shows
+abbrev pub place_of : Tables → List ℕ
+place_of t = vec_items t.plan
+
+-- the plan that the last search shows, which stands in the front of the plan place
 abbrev pub plan_of : Tables → List ℕ
-plan_of t = take t.shown (vec_items t.plan)
+plan_of t = take t.shown (place_of t)

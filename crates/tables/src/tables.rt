@@ -1,6 +1,5 @@
 // The tables of a search. Their size and the plan that they show are all that counts outside.
 ghost use Rattle.std.specs.Prelude.{◌≡◌, ◌≤◌, vec_len};
-ghost use Rattle.search.specs.declared.least_costs.TheConstants.{MOST_ROWS};
 
 use crate::fault::TablesFault;
 use domain::Domain;
@@ -16,9 +15,9 @@ pub struct Tables {
     rows: Vec<Row>,
     waiting: Vec<Entry>,
     plan: Vec<u8>,
-    // how many actions the plan has that the last search shows; they stand in the front of the plan place
+    // how many actions the plan has that the last search shows; they stand in the front of the plan place, which is lent to each search whole
     shown: usize,
-    ghost suited: { (1 ≤ vec_len rows) × (vec_len rows ≤ MOST_ROWS) },
+    ghost suited: { (1 ≤ vec_len rows) × (vec_len rows ≤ 4096) },
     ghost alike: { (vec_len waiting ≡ vec_len rows) × (vec_len plan ≡ vec_len rows) },
     ghost within: { shown ≤ vec_len plan },
 }
@@ -53,7 +52,7 @@ impl Tables {
         domain: &D,
         goal: u8,
     ) -> Result<(Option<u32>, Option<u32>), SearchFault>
-        ensures answered { Answered (D.meaning domain.now) goal (row_count self.old) (plan_of self.old) (plan_of self.new) result }
+        ensures answered { Answered (D.meaning domain.now) goal self.old self.new result }
         ensures count { row_count self.new ≡ row_count self.old }
         ensures rows { TablesStay result (rows_of self.new ≡ rows_of self.old) }
         ensures waiting { TablesStay result (waiting_of self.new ≡ waiting_of self.old) }

@@ -3,7 +3,7 @@ use Rattle.std.proofs.Common.{◌≡◌, ℕ, ◌≤◌, min, List, ◌++◌, le
 use Rattle.std.proofs.lemmas.Grind.{common_steps}
 use Rattle.board.specs.declared.row.BoardRow.{BoardRow}
 use Rattle.domain.specs.Meaning.{Meaning}
-use Rattle.search.specs.Answers.{Sizes}
+use Rattle.search.specs.Answers.{Sizes, sizes_of}
 use Rattle.watch.specs.declared.fault.WatchFault.{WatchFault}
 use Rattle.watch.specs.declared.report.Report as report
 use Rattle.watch.specs.declared.call.Request.{Request}
@@ -17,7 +17,7 @@ answer_front : (m : Meaning) (goal : ℕ) (s : Sizes) (before part post : List �
 answer_front m goal s before part post r fits told = grind (arith, common_steps)
 
 -- the fronts of the places, as long as is asked for where the places have that much
-pub sizes_cut : {X Y : Type 0} (table : List X) (waiting : List Y) (plan : List ℕ) (q : Request) (a b c : ℕ) → a ≡ min q.rows (length table) → b ≡ min q.waiting (length waiting) → c ≡ min q.places (length plan) → calls.sizes_of (take a table) (take b waiting) (take c plan) ≡ cut_to (calls.sizes_of table waiting plan) q
+pub sizes_cut : {X Y : Type 0} (table : List X) (waiting : List Y) (plan : List ℕ) (q : Request) (a b c : ℕ) → a ≡ min q.rows (length table) → b ≡ min q.waiting (length waiting) → c ≡ min q.places (length plan) → sizes_of (take a table) (take b waiting) (take c plan) ≡ cut_to (sizes_of table waiting plan) q
 sizes_cut table waiting plan q a b c e f g = grind (arith, common_steps)
 
 module _ (d m : Meaning) (log log' : List ℕ) (rows rows' : List BoardRow) (goal : ℕ) (s t : Sizes) (before part post : List ℕ) (r : Result report.Report WatchFault) (answer : Result (Option report.Report) WatchFault) where

@@ -1,11 +1,7 @@
 -- Calls on a watch, and their answers.
-use Rattle.std.specs.Prelude.{ℕ, List, length, Option, Result}
+use Rattle.std.specs.Prelude.{ℕ, List, Option, Result}
 use Rattle.plans.specs.declared.verdict.Verdict.{Verdict}
 use Rattle.search.specs.Answers.{Sizes}
-
--- the sizes of a table, a waiting list and a plan place
-abbrev pub sizes_of : {X Y : Type 0} → List X → List Y → List ℕ → Sizes
-sizes_of table waiting plan = record { rows = length table; waiting = length waiting; places = length plan }
 
 -- a report is handed a goal and three places, of these sizes
 pub data Call : Type 0 where

@@ -1,5 +1,5 @@
 -- A list of calls and the places of their answers, as a run.
-use Rattle.std.specs.Prelude.{ℕ, min, List, [], ◌∷◌, take, Some, None, Ok, Err, Option, Result}
+use Rattle.std.specs.Prelude.{ℕ, min, List, [], ◌∷◌, Some, None, Ok, Err, Option, Result}
 use Rattle.search.specs.Answers.{Sizes}
 use Rattle.watch.specs.declared.call.Call.{Call}
 use Rattle.watch.specs.declared.call.Call.TheVariants as variants
@@ -9,6 +9,7 @@ use Rattle.watch.specs.declared.fault.WatchFault.{WatchFault}
 use Rattle.watch.specs.declared.report.Report.{Report}
 use Rattle.watch.specs.Calls as calls
 use Rattle.watch.specs.Faults.{watch_number}
+use Rattle.watch.specs.Reporting.{report_answer}
 
 -- a report names sizes, of which there are at most those that are lent
 abbrev pub cut_to : Sizes → Request → Sizes
@@ -21,9 +22,9 @@ plain_answer (Err fault) = Err (watch_number fault)
 
 -- the answer to a report, with its plan
 abbrev pub plan_answer : Result (Option Report) WatchFault → List ℕ → Result calls.Report ℕ
-plan_answer (Ok (Some r)) plan = Ok (record { verdict = r.verdict; without = r.without; with = r.with; plan = take r.length plan })
+plan_answer (Ok (Some r)) plan = report_answer plan (Ok r)
 plan_answer (Ok None) plan = Err 0
-plan_answer (Err fault) plan = Err (watch_number fault)
+plan_answer (Err fault) plan = report_answer plan (Err fault)
 
 abbrev pub event_of : Sizes → Call → Slot → calls.Event
 event_of lent (variants.Note a) slot = (calls.note a, plain_answer slot.answer)

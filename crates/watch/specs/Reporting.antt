@@ -2,7 +2,7 @@
 use Rattle.std.specs.Prelude.{◌≡◌, ℕ, List, take, Ok, Err, Result}
 use Rattle.domain.specs.Meaning.{Meaning}
 use Rattle.plans.specs.Verdicts.{verdict_of}
-use Rattle.search.specs.declared.fault.SearchFault.TheVariants as search
+use Rattle.search.specs.Answers as lent
 use Rattle.search.specs.Answers.{Sizes, Refused, Accepted}
 use Rattle.watch.specs.declared.fault.WatchFault.{WatchFault}
 use Rattle.watch.specs.declared.fault.WatchFault.TheVariants.{Log, Search, Rank}
@@ -20,9 +20,7 @@ Reported m goal s before after (Err (Rank fault)) = ⊥
 -- a question about the goal or the sizes that is answered no leaves the tables as they were
 abbrev pub TablesStay : {X : Type 0} → Result X WatchFault → Type 0 → Type 0
 TablesStay (Ok x) P = Unit {0}
-TablesStay (Err (Search search.Goal)) P = P
-TablesStay (Err (Search search.Tables)) P = P
-TablesStay (Err (Search search.Rows)) P = Unit {0}
+TablesStay {X} (Err (Search fault)) P = lent.TablesStay {X = X} (Err fault) P
 TablesStay (Err (Log fault)) P = P
 TablesStay (Err (Rank fault)) P = P
 

@@ -1,7 +1,8 @@
 // Reports on goals.
 ghost use Rattle.std.specs.Prelude.{◌≡◌};
+ghost use Rattle.search.specs.Answers.{sizes_of};
 ghost use Rattle.watch.specs.Book.{present};
-ghost use Rattle.watch.specs.Calls.{report, sizes_of};
+ghost use Rattle.watch.specs.Calls.{report};
 ghost use Rattle.watch.specs.Reporting.{Reported, TablesStay, report_answer};
 ghost use Rattle.watch.specs.Runs.{RowsAfter, Then};
 

@@ -1,6 +1,6 @@
 // A report in a list of calls on one watch.
 ghost use Rattle.std.specs.Prelude.{◌≡◌};
-ghost use Rattle.watch.specs.Calls.{sizes_of};
+ghost use Rattle.search.specs.Answers.{sizes_of};
 ghost use Rattle.watch.specs.Lists.{event_of};
 ghost use Rattle.watch.specs.Runs.{Then};
 ghost use Rattle.watch.specs.declared.call.Call.TheVariants as calls;

@@ -1,7 +1,7 @@
 use Rattle.std.proofs.Common.{rules, Ok, Result}
+use Rattle.search.specs.Answers.{sizes_of}
 use Rattle.watch.specs.declared.fault.WatchFault.{WatchFault}
 use Rattle.watch.specs.declared.report.Report.{Report}
-use Rattle.watch.specs.Calls.{sizes_of}
 use Rattle.watch.proofs.Laws.{report_law}
 use Rattle.watch.proofs.watch.Watch.report.Goals as goal
 
