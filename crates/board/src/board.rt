@@ -4,6 +4,7 @@ ghost use Rattle.std.specs.List.{slice_get};
 ghost use Rattle.board.specs.Rows.{open_row, agrees, AllAgree, BoardRows};
 
 use crate::row::BoardRow;
+use domain::limits::MOST_GOALS;
 use std::marker::Model;
 
 // A row for each goal that a domain may have, in a fixed table, so that no call allocates.
@@ -25,7 +26,7 @@ impl Model for Board {
 
 impl Board {
     // How many rows a board has, as many as a domain may have goals.
-    pub const ROWS: usize = 32;
+    pub const ROWS: usize = MOST_GOALS as usize;
 
     // All rows are open.
     pub fn new() -> Board

@@ -18,6 +18,7 @@ pub enum Verdict {
 
 impl Verdict {
     // The verdict on the least cost of an admitted plan and that of a whole one.
+    // It is no `From`: the clause `right` carries the theorem on verdicts, under its own name.
     pub fn of(costs: (Option<u32>, Option<u32>)) -> Verdict
         ensures value { result ≡ verdict_of costs.0 costs.1 }
         ensures right { JudgesRightly costs.0 costs.1 result }

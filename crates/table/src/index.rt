@@ -47,6 +47,7 @@ pub fn find(rows: &[Row], len: usize, state: u64) -> Option<usize>
 }
 
 // Another node in the row i; none if there is no such row. A row whose state stays is found as before.
+// The answer is an option and no bool, so that `add` hands it up by `?`.
 pub fn put(rows: &mut [Row], i: usize, node: Node) -> Option<()>
     ensures value { IsSome result ↔ (i < length rows.old) }
     ensures rows { MatchOption result (rows.new ≡ rows.old) (λ done. Put rows.old i node rows.new) }

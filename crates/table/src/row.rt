@@ -33,7 +33,8 @@ pub(crate) struct Link {
 #[derive(Clone, Copy, Default)]
 pub struct Row {
     pub node: Node,
-    // where the state stands in the waiting list
+    // where the state stands in the waiting list; it means nothing once the node is settled.
+    // An enum of both would be written whole at every move of the heap.
     pub place: usize,
     pub(crate) link: Link,
 }

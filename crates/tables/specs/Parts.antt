@@ -14,6 +14,7 @@ rows_of t = vec_items t.rows
 abbrev pub waiting_of : Tables → List Entry
 waiting_of t = vec_items t.waiting
 
+-- the plan place, all of it
 abbrev pub place_of : Tables → List ℕ
 place_of t = vec_items t.plan
 
