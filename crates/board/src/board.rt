@@ -1,4 +1,4 @@
-// A board. No board exists with a row whose costs contradict its verdict.
+//! A board. No board exists with a row whose costs contradict its verdict.
 ghost use Rattle.std.specs.Prelude.{◌≡◌, ◌&&◌, length, replicate, if◌then◌else◌, nat_lt, slice_set};
 ghost use Rattle.std.specs.List.{slice_get};
 ghost use Rattle.board.specs.Rows.{open_row, agrees, AllAgree, BoardRows};
@@ -7,7 +7,7 @@ use crate::row::BoardRow;
 use domain::limits::MOST_GOALS;
 use std::marker::Model;
 
-// A row for each goal that a domain may have, in a fixed table, so that no call allocates.
+/// A row for each goal that a domain may have, in a fixed table, so that no call allocates.
 #[derive(Clone, Copy, PartialEq, Eq, Debug)]
 pub struct Board {
     rows: [BoardRow; Board::ROWS],
@@ -25,10 +25,10 @@ impl Model for Board {
 }
 
 impl Board {
-    // How many rows a board has, as many as a domain may have goals.
+    /// How many rows a board has, as many as a domain may have goals.
     pub const ROWS: usize = MOST_GOALS as usize;
 
-    // All rows are open.
+    /// All rows are open.
     pub fn new() -> Board
         ensures { result.rows ≡ replicate 32 open_row }
     {
@@ -37,22 +37,22 @@ impl Board {
         }
     }
 
-    // The row of a goal, if the board has one of that number.
+    /// The row of a goal, if the board has one of that number.
     pub fn row(&self, goal: u8) -> Option<BoardRow>
         ensures { result ≡ slice_get self.now.rows goal }
     {
         self.rows.get(usize::from(goal)).copied()
     }
 
-    // Opens all rows.
+    /// Opens all rows.
     pub fn open_all(&mut self)
         ensures { self.new.rows ≡ replicate 32 open_row }
     {
         *self = Board::new();
     }
 
-    // Puts a row in the place of a goal's; the answer is whether there is such a place, and the row agrees with itself.
-    // It is a yes or a no: of a row that is not stored there is nothing more to tell.
+    /// Puts a row in the place of a goal's; the answer is whether there is such a place, and the row agrees with itself.
+    /// It is a yes or a no: of a row that is not stored there is nothing more to tell.
     pub fn store(&mut self, goal: u8, row: BoardRow) -> bool
         ensures value { result ≡ (nat_lt goal 32 && agrees row) }
         ensures rows { self.new.rows ≡ (if result then slice_set self.old.rows goal row else self.old.rows) }

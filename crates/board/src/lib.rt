@@ -1,4 +1,4 @@
-// The board: a row for each goal, with what the last report on it said.
+//! The board: a row for each goal, with what the last report on it said.
 #![tactic(auto)]
 
 pub mod board;

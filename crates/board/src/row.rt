@@ -1,16 +1,16 @@
-// The rows of a board.
+//! The rows of a board.
 ghost use Rattle.std.specs.Prelude.{◌≡◌};
 ghost use Rattle.board.specs.Rows.{open_row, judged_row, agrees};
 
 use plans::verdict::Verdict;
 
-// A row is open, or holds a verdict and the costs that exist. The default is the open row.
-// It is plain, and may contradict itself: that no row does is the rule of the board.
+/// A row is open, or holds a verdict and the costs that exist. The default is the open row.
+/// It is plain, and may contradict itself: that no row does is the rule of the board.
 #[derive(Clone, Copy, PartialEq, Eq, Debug, Default)]
 pub struct BoardRow {
-    // none while the row is open
+    /// none while the row is open
     pub verdict: Option<Verdict>,
-    // the least cost of an admitted plan, and of a whole one
+    /// the least cost of an admitted plan, and of a whole one
     pub without: Option<u32>,
     pub with: Option<u32>,
 }
@@ -22,7 +22,7 @@ impl BoardRow {
         BoardRow::default()
     }
 
-    // The row of two least costs, with the verdict on them.
+    /// The row of two least costs, with the verdict on them.
     pub fn judged(costs: (Option<u32>, Option<u32>)) -> BoardRow
         ensures { result ≡ judged_row costs.0 costs.1 }
     {
@@ -34,7 +34,7 @@ impl BoardRow {
         }
     }
 
-    // Whether the costs are such as the verdict says.
+    /// Whether the costs are such as the verdict says.
     pub fn agrees(self) -> bool
         ensures { result ≡ agrees self }
     {

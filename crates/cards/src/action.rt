@@ -1,18 +1,18 @@
-// An action of a card.
+//! An action of a card.
 ghost use Rattle.std.specs.Prelude.{◌↔◌, IsTrue};
 ghost use Rattle.cards.specs.Limits.{ActionAmong};
 
 use domain::limits::MOST_COST;
 use fluents::FluentSet;
 
-// It runs where all its needs hold. What it deletes is then gone, and what it adds holds.
+/// It runs where all its needs hold. What it deletes is then gone, and what it adds holds.
 #[derive(Clone, Copy, PartialEq, Eq, Debug)]
 pub struct Action {
     pub needs: FluentSet,
     pub adds: FluentSet,
     pub deletes: FluentSet,
     pub cost: u16,
-    // the console always logs a marked action
+    /// the console always logs a marked action
     pub marked: bool,
 }
 

@@ -1,4 +1,4 @@
-// An action as a record of a file.
+//! An action as a record of a file.
 ghost use Rattle.cards.specs.ActionRecords.{action_entry, entry_action};
 
 use crate::action::Action;

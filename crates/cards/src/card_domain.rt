@@ -1,4 +1,4 @@
-// A card as a planning domain.
+//! A card as a planning domain.
 ghost use Rattle.std.specs.Prelude.{◌≡◌, ◌↔◌, ◌^◌, ◌<◌, IsTrue, MatchOption};
 ghost use Rattle.cards.specs.Cards.{action_at, meaning_of, Runs, After, Meets, OwnCost, OwnMark};
 ghost use Rattle.cards.specs.Contents.{contents};

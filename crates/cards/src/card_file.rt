@@ -1,4 +1,4 @@
-// A card's file.
+//! A card's file.
 ghost use Rattle.std.specs.Prelude.{◌≡◌, IfOk, IfErr, Ok};
 ghost use Rattle.domain.specs.Rooms.{SameRoom};
 ghost use Rattle.files.specs.Writing.{write_outcome, place_after};
@@ -13,8 +13,8 @@ use fluents::FluentSet;
 use formats::parts::Parts;
 
 impl Card {
-    // The card that the bytes are the file of, in the room that is handed over. A refusal gives the room back.
-    // Its parts are read for every kind of domain alike; only the words of the contract are a card's own.
+    /// The card that the bytes are the file of, in the room that is handed over. A refusal gives the room back.
+    /// Its parts are read for every kind of domain alike; only the words of the contract are a card's own.
     #[tactic(auto, using(crate::proofs::FileLaws::told_exactly))]
     pub fn read(
         bytes: &[u8],
@@ -29,7 +29,7 @@ impl Card {
         Ok(Card { parts })
     }
 
-    // The card's file into the front of the place; the answer is how many bytes it takes.
+    /// The card's file into the front of the place; the answer is how many bytes it takes.
     pub fn write(&self, place: &mut [u8]) -> Result<usize, WriteFault>
         ensures value { result ≡ write_outcome (card_file (contents self.now)) place.old }
         ensures place { place.new ≡ place_after (card_file (contents self.now)) place.old }

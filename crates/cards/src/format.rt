@@ -1,4 +1,4 @@
-// What a card's file holds.
+//! What a card's file holds.
 ghost use Rattle.files.specs.declared.kind.Kind.TheVariants as kind;
 ghost use Rattle.cards.specs.Limits.{Among, ActionAmong, InLimits, card_of};
 ghost use Rattle.cards.specs.Conversions.{converts, same_limits};
@@ -8,7 +8,7 @@ use files::kind::Kind;
 use fluents::FluentSet;
 use formats::format::Format;
 
-// The format of a card's file; it has no values.
+/// The format of a card's file; it has no values.
 pub enum CardFormat {}
 
 impl Format for CardFormat {

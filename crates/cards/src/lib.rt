@@ -1,4 +1,4 @@
-// Set-up cards: a planning domain whose states are sets of fluents.
+//! Set-up cards: a planning domain whose states are sets of fluents.
 #![tactic(auto)]
 
 pub mod action;

@@ -1,4 +1,4 @@
-// A card of given parts.
+//! A card of given parts.
 ghost use Rattle.std.specs.Prelude.{◌↔◌, IsTrue};
 ghost use Rattle.cards.specs.Contents.{InLimits, MadeOf};
 
@@ -23,7 +23,7 @@ fn in_limits(fluents: u8, start: FluentSet, actions: &[Action], goals: &[FluentS
 }
 
 impl Card {
-    // The card of these parts, unless they are out of the limits of a card.
+    /// The card of these parts, unless they are out of the limits of a card.
     pub fn new(
         fluents: u8,
         start: FluentSet,

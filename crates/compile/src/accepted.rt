@@ -1,4 +1,4 @@
-// A card with a log that can be compiled.
+//! A card with a log that can be compiled.
 ghost use Rattle.cards.specs.Contents.{contents};
 ghost use Rattle.logs.specs.Entries.{entries};
 ghost use Rattle.compile.specs.Questions.{Fits};

@@ -1,4 +1,4 @@
-// A log compiled into a card.
+//! A log compiled into a card.
 ghost use Rattle.std.specs.Prelude.{◌≡◌, ℕ, ◌+◌, ◌<◌, ◌≤◌, ◌++◌, map, IfOk, IfErr, vec_len, vec_capacity};
 ghost use Rattle.std.specs.List.{range_with_len};
 ghost use Rattle.domain.specs.Rooms.{SameRoom};

@@ -1,20 +1,20 @@
-// Why a log is not compiled into a card.
+//! Why a log is not compiled into a card.
 ghost use Rattle.std.specs.Prelude.{◌≡◌};
 ghost use Rattle.compile.specs.Faults.{compile_number};
 ghost use Rattle.compile.specs.declared.fault.CompileFault.TheVariants.{Log};
 
 use domain::fault::{LogFault, Numbered};
 
-// The question that was the first to be answered no.
+/// The question that was the first to be answered no.
 #[derive(Clone, Copy, PartialEq, Eq, Debug)]
 pub enum CompileFault {
-    // the log has too many entries, or one that is no action of the card
+    /// the log has too many entries, or one that is no action of the card
     Log(LogFault),
-    // the card would have more than 55 fluents
+    /// the card would have more than 55 fluents
     Fluents,
-    // it would have more than 120 actions
+    /// it would have more than 120 actions
     Actions,
-    // it would have more than 32 goals
+    /// it would have more than 32 goals
     Goals,
 }
 

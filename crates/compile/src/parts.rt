@@ -1,4 +1,4 @@
-// The actions and the goals of a compiled card.
+//! The actions and the goals of a compiled card.
 ghost use Rattle.std.specs.Prelude.{◌≡◌, ◌<◌, length};
 ghost use Rattle.cards.specs.Cards.{goal_at};
 ghost use Rattle.compile.specs.Compiled.{union, effect, mark, marks, own_action, copy, with_log};

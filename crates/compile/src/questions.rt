@@ -1,4 +1,4 @@
-// The questions that are asked before a log is compiled.
+//! The questions that are asked before a log is compiled.
 ghost use Rattle.std.specs.Prelude.{◌≡◌, IfOk};
 ghost use Rattle.cards.specs.Contents.{contents};
 ghost use Rattle.compile.specs.Accepting.{log_outcome};

@@ -1,4 +1,4 @@
-// The least cost of each goal, and a cheapest plan.
+//! The least cost of each goal, and a cheapest plan.
 use crate::refusals_in_words::Refused;
 use domain::Domain;
 use reports::row::Row;

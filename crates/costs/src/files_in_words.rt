@@ -1,4 +1,4 @@
-// The files of a folder, and what is said of its domain.
+//! The files of a folder, and what is said of its domain.
 use crate::costs_in_words::say_costs;
 use crate::lists_in_words::judge_list;
 use loading::any_domain::AnyDomain;

@@ -1,4 +1,4 @@
-// A list of actions beside a domain, judged by a log. Places of the list and entries of the log count from 0.
+//! A list of actions beside a domain, judged by a log. Places of the list and entries of the log count from 0.
 use crate::refusals_in_words::Refused;
 use domain::Domain;
 use judge::carrying::carried;

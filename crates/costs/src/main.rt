@@ -1,5 +1,5 @@
-// Says what each goal of a domain costs, with a cheapest plan, and judges a list of actions beside the domain by a log.
-// Arguments: folders with a file domain.bin in each, and maybe plan.bin and log.bin; none stands for the working directory.
+//! Says what each goal of a domain costs, with a cheapest plan, and judges a list of actions beside the domain by a log.
+//! Arguments: folders with a file domain.bin in each, and maybe plan.bin and log.bin; none stands for the working directory.
 #![tactic(auto)]
 
 mod costs_in_words;

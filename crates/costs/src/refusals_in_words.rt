@@ -1,4 +1,4 @@
-// The words of a search or a log that is refused.
+//! The words of a search or a log that is refused.
 use domain::fault::{LogFault, Numbered};
 use search::fault::SearchFault;
 use std::fmt;

@@ -1,4 +1,4 @@
-// A set-up card.
+//! A set-up card.
 use crate::domains_in_words::{Cost, InWords};
 use cards::action::Action;
 use cards::card::Card;

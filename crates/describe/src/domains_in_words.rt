@@ -1,4 +1,4 @@
-// A domain, in the words of its kind.
+//! A domain, in the words of its kind.
 use domain::Domain;
 use std::fmt;
 

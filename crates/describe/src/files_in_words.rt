@@ -1,4 +1,4 @@
-// A domain file of either kind.
+//! A domain file of either kind.
 use crate::domains_in_words::say_domain;
 use domain::fault::{Numbered, WriteFault};
 use loading::any_domain::AnyDomain;

@@ -1,5 +1,5 @@
-// Says in words what a domain file holds, writes it again, and compares the bytes.
-// Arguments: folders with a file domain.bin in each; none stands for the working directory.
+//! Says in words what a domain file holds, writes it again, and compares the bytes.
+//! Arguments: folders with a file domain.bin in each; none stands for the working directory.
 #![tactic(auto)]
 
 mod cards_in_words;

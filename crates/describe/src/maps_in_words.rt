@@ -1,4 +1,4 @@
-// A field map.
+//! A field map.
 use crate::domains_in_words::{Cost, InWords};
 use domain::Domain;
 use maps::field_map::FieldMap;

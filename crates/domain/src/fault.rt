@@ -1,4 +1,4 @@
-// Why a call is refused: on a file, on a log, or for want of memory.
+//! Why a call is refused: on a file, on a log, or for want of memory.
 ghost use Rattle.std.specs.Prelude.{◌≡◌, ℕ, Some, codes};
 ghost use Rattle.domain.specs.Faults.{read_number, write_number, log_number, room_number, position_of, position_words};
 ghost use Rattle.domain.specs.declared.fault.RoomFault.TheVariants.{Memory};
@@ -7,7 +7,7 @@ use std::alloc::AllocError;
 use std::error::Error;
 use std::fmt;
 
-// A fault has a number, by which the programs report it.
+/// A fault has a number, by which the programs report it.
 pub trait Numbered {
     ghost numbered: { Self → ℕ };
 
@@ -15,7 +15,7 @@ pub trait Numbered {
         ensures { result ≡ numbered self };
 }
 
-// A place in a file. Records count from 0 for the header through actions and goals.
+/// A place in a file. Records count from 0 for the header through actions and goals.
 #[derive(Clone, Copy, PartialEq, Eq, Debug)]
 pub struct Position {
     pub record: usize,
@@ -30,24 +30,24 @@ impl fmt::Display for Position {
     }
 }
 
-// The question about a file that was the first to be answered no, and where.
+/// The question about a file that was the first to be answered no, and where.
 #[derive(Clone, Copy, PartialEq, Eq, Debug)]
 pub enum ReadFault {
-    // the first byte is not the letter of the kind
+    /// the first byte is not the letter of the kind
     Letter(Position),
-    // the header is cut
+    /// the header is cut
     Header(Position),
-    // a count is 0 or above its limit
+    /// a count is 0 or above its limit
     Count(Position),
-    // the start is no state
+    /// the start is no state
     Start(Position),
-    // a record is cut
+    /// a record is cut
     Cut(Position),
-    // a bit map has a bit that is not defined
+    /// a bit map has a bit that is not defined
     Bits(Position),
-    // a field is out of range, or holds the value that it has when it is absent
+    /// a field is out of range, or holds the value that it has when it is absent
     Field(Position),
-    // bytes follow the last record
+    /// bytes follow the last record
     End(Position),
 }
 
@@ -85,10 +85,10 @@ impl ReadFault {
     }
 }
 
-// Why a file is not written.
+/// Why a file is not written.
 #[derive(Clone, Copy, PartialEq, Eq, Debug)]
 pub enum WriteFault {
-    // the place is shorter than the file
+    /// the place is shorter than the file
     Place = 9,
 }
 
@@ -100,16 +100,16 @@ impl Numbered for WriteFault {
     }
 }
 
-// Why an entry is not added to a log, or not dropped from it.
+/// Why an entry is not added to a log, or not dropped from it.
 #[derive(Clone, Copy, PartialEq, Eq, Debug)]
 pub enum LogFault {
-    // the domain has no action of that number
+    /// the domain has no action of that number
     Action = 11,
-    // the domain is too wide to be watched
+    /// the domain is too wide to be watched
     Width = 12,
-    // the log is full
+    /// the log is full
     Full = 13,
-    // the log is empty
+    /// the log is empty
     Empty = 14,
 }
 
@@ -121,10 +121,10 @@ impl Numbered for LogFault {
     }
 }
 
-// Why there is no room for a domain.
+/// Why there is no room for a domain.
 #[derive(Clone, Copy, PartialEq, Eq, Debug)]
 pub enum RoomFault {
-    // there is no memory for a domain
+    /// there is no memory for a domain
     Memory = 32,
 }
 

@@ -1,4 +1,4 @@
-// The sample domains as files, with what their goals come to under some logs.
+//! The sample domains as files, with what their goals come to under some logs.
 #![tactic(auto)]
 
 ghost use Rattle.examples.specs.Worked.{WorkedExamples};
@@ -36,12 +36,12 @@ const SLEWS: &[u8; 30] = b"\
 #[derive(Clone, Copy)]
 pub struct SampleFiles {
     pub calibration: [u8; 138],
-    // the same card, with switching the lamp on marked
+    /// the same card, with switching the lamp on marked
     pub marked: [u8; 138],
     pub slews: [u8; 30],
 }
 
-// The files of the sample domains. Of the domains that are read from them every line of the worked examples holds.
+/// The files of the sample domains. Of the domains that are read from them every line of the worked examples holds.
 pub fn sample_files() -> SampleFiles
     ensures { WorkedExamples result.calibration result.marked result.slews }
 {

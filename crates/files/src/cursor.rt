@@ -1,4 +1,4 @@
-// Reading one record, from a place in a file.
+//! Reading one record, from a place in a file.
 ghost use Rattle.std.specs.Prelude.{◌≡◌, ◌+◌, ◌≤◌, length};
 ghost use Rattle.files.specs.Formats.{bytes_of, fields_of};
 ghost use Rattle.files.specs.Reading.{size_of, part_with};

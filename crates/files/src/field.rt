@@ -1,4 +1,4 @@
-// The fields that a record may have.
+//! The fields that a record may have.
 ghost use Rattle.std.specs.Prelude.{◌≡◌, ◌<◌, ◌≤◌, ◌↔◌, IsTrue, length};
 ghost use Rattle.files.specs.Formats.{bytes_of, absent_of, limit_of};
 ghost use Rattle.files.specs.Contents.{is_written, may_hold, field_bytes};
@@ -9,11 +9,11 @@ use domain::limits::MOST_COST;
 
 #[derive(Clone, Copy, PartialEq, Eq, Debug)]
 pub enum Field {
-    // a set of fluents: bit i of the value tells of fluent i
+    /// a set of fluents: bit i of the value tells of fluent i
     Set,
-    // a place, by its number
+    /// a place, by its number
     Place,
-    // the cost of an action
+    /// the cost of an action
     Cost,
 }
 

@@ -1,6 +1,6 @@
-// What is read of a file.
+//! What is read of a file.
 
-// A file that was read: how many fluents or places there are, the start, the actions and the goals.
+/// A file that was read: how many fluents or places there are, the start, the actions and the goals.
 #[derive(Drop)]
 pub struct File<S, G> {
     pub size: u8,

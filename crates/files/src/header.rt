@@ -1,4 +1,4 @@
-// The header of a file.
+//! The header of a file.
 ghost use Rattle.std.specs.Prelude.{◌≡◌, ◌%◌, ◌<◌, ◌≤◌, length};
 ghost use Rattle.files.specs.Contents.{header_bytes};
 ghost use Rattle.files.specs.Formats.{header_length};
@@ -10,7 +10,7 @@ use crate::numbers::{read_number, write_number};
 use domain::fault::{Position, ReadFault};
 use domain::limits::{MOST_ACTIONS, MOST_GOALS};
 
-// What stands before the records.
+/// What stands before the records.
 #[derive(Clone, Copy)]
 pub struct Header {
     pub(crate) size: u8,

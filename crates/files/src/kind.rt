@@ -1,4 +1,4 @@
-// The two kinds of domain file.
+//! The two kinds of domain file.
 ghost use Rattle.std.specs.Prelude.{◌≡◌};
 ghost use Rattle.files.specs.Formats.{letter_of, most_of, start_of, header_length};
 
@@ -6,19 +6,19 @@ use crate::field::Field;
 use crate::layout::Layout;
 use domain::limits::MOST_WIDTH_BELOW;
 
-// The most fluents of a card: it is never too wide to have a log over it.
+/// The most fluents of a card: it is never too wide to have a log over it.
 pub const MOST_FLUENTS: u8 = MOST_WIDTH_BELOW;
 
 pub const MOST_PLACES: u8 = 64;
 
-// The number of each is the letter of its files.
+/// The number of each is the letter of its files.
 #[derive(Clone, Copy, PartialEq, Eq, Debug)]
 pub enum Kind {
     Card = b'S' as isize,
     Map = b'M' as isize,
 }
 
-// What a record after the header describes.
+/// What a record after the header describes.
 #[derive(Clone, Copy, PartialEq, Eq, Debug)]
 pub enum Part {
     Action,
@@ -26,7 +26,7 @@ pub enum Part {
 }
 
 impl Kind {
-    // The first byte of a file.
+    /// The first byte of a file.
     pub fn letter(self) -> u8
         ensures { result ≡ letter_of self }
     {

@@ -1,4 +1,4 @@
-// The layout of a record, by which it is read and written.
+//! The layout of a record, by which it is read and written.
 ghost use Rattle.std.specs.Prelude.{◌≡◌, ◌≤◌, length};
 ghost use Rattle.files.specs.Contents.{bit_map, mark_bit, record_bytes};
 ghost use Rattle.files.specs.Formats.{fields_of, is_markable, bit_count};

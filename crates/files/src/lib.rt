@@ -1,4 +1,4 @@
-// Domain files: the two formats, read and written by one set of functions.
+//! Domain files: the two formats, read and written by one set of functions.
 #![tactic(auto)]
 
 mod cursor;

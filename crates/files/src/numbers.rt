@@ -1,4 +1,4 @@
-// Numbers as bytes, lowest first.
+//! Numbers as bytes, lowest first.
 ghost use Rattle.std.specs.Prelude.{◌≡◌, ◌^◌, ◌<◌, ◌≤◌, ◌↔◌, IsTrue, length};
 ghost use Rattle.files.specs.Numbers.{little, spelled};
 
@@ -12,7 +12,7 @@ pub(crate) fn read_number(bytes: &[u8]) -> u64
     u64::from_le_bytes(all)
 }
 
-// Whether the value takes no more than so many bits.
+/// Whether the value takes no more than so many bits.
 pub fn has_bits(value: u64, bits: u8) -> bool
     ensures { IsTrue result ↔ (value < 2 ^ bits) }
 {

@@ -1,4 +1,4 @@
-// Reading a whole file.
+//! Reading a whole file.
 ghost use Rattle.std.specs.Prelude.{◌≡◌, ◌+◌, ◌≤◌, IfErr, vec_len, vec_capacity};
 ghost use Rattle.domain.specs.Rooms.{SameRoom};
 ghost use Rattle.files.specs.Exact.{ReadExactly};
@@ -77,7 +77,7 @@ fn read_into<S: Record, G: Record>(
     Ok(header)
 }
 
-// A file of the kind, in the room that is handed over. A refusal gives the room back.
+/// A file of the kind, in the room that is handed over. A refusal gives the room back.
 pub fn read_file<S: Record + Drop, G: Record + Drop>(
     kind: Kind,
     bytes: &[u8],

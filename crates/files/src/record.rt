@@ -1,11 +1,11 @@
-// What a record of a file stands for.
+//! What a record of a file stands for.
 ghost use Rattle.std.specs.Prelude.{◌≡◌};
 ghost use Rattle.files.specs.Contents.{Entry, four_of};
 
-// The values of a record's fields, absent ones too, in the order of their bits. No record of a file has more than four; behind the last one's value stands 0.
+/// The values of a record's fields, absent ones too, in the order of their bits. No record of a file has more than four; behind the last one's value stands 0.
 pub type Values = [u64; 4];
 
-// A part of a domain that has a record of its own in the file: an action, a move, a goal.
+/// A part of a domain that has a record of its own in the file: an action, a move, a goal.
 pub trait Record: Sized {
     // what its record holds, and what is made of such a record
     ghost written: { Self → Entry };
@@ -22,7 +22,7 @@ pub trait Record: Sized {
         ensures { result ≡ (written self.now).marked };
 }
 
-// The first four of the values, and 0 for each that is missing.
+/// The first four of the values, and 0 for each that is missing.
 pub fn first_four(values: &[u64]) -> Values
     ensures { result ≡ four_of values.now }
 {

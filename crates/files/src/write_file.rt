@@ -1,4 +1,4 @@
-// Writing a whole file.
+//! Writing a whole file.
 ghost use Rattle.std.specs.Prelude.{◌≡◌, ◌-◌, ◌≤◌, length, SomeIff};
 ghost use Rattle.files.specs.Contents.{file_bytes};
 ghost use Rattle.files.specs.Writing.{write_outcome, place_after, Wrote, raw_of, records_of, file_length};
@@ -46,8 +46,8 @@ fn write_parts<R: Record>(layout: Layout, items: &[R], place: &mut [u8]) -> usiz
     count
 }
 
-// The file into the front of the place; the answer is how many bytes it takes.
-// Its parts are handed over one by one: a file owns its vectors, and a struct that borrows them would be one more type for one call.
+/// The file into the front of the place; the answer is how many bytes it takes.
+/// Its parts are handed over one by one: a file owns its vectors, and a struct that borrows them would be one more type for one call.
 pub fn write_file<S: Record, G: Record>(
     kind: Kind,
     size: u8,

@@ -1,4 +1,4 @@
-// Sets of fluents.
+//! Sets of fluents.
 #![tactic(auto)]
 
 ghost use Rattle.std.specs.Prelude.{◌≡◌, ◌↔◌, ℕ, ◌^◌, ◌<◌, not, ◌&&◌, ◌||◌, IsTrue};
@@ -8,8 +8,8 @@ pub mod set_record;
 
 use files::numbers::has_bits;
 
-// A set of fluents, numbered from 0: fluent i is in it where bit i is 1.
-// Every number is a set, so its bits are public, and clauses tell of sets by them.
+/// A set of fluents, numbered from 0: fluent i is in it where bit i is 1.
+/// Every number is a set, so its bits are public, and clauses tell of sets by them.
 #[derive(Clone, Copy, PartialEq, Eq, Default, Debug)]
 pub struct FluentSet(pub u64);
 
@@ -38,7 +38,7 @@ impl FluentSet {
             .is_some_and(|rest| rest % 2 == 1)
     }
 
-    // Whether every fluent of this set is one of the other.
+    /// Whether every fluent of this set is one of the other.
     pub fn within(self, other: FluentSet) -> bool
         ensures { IsTrue result ↔ Within self.0 other.0 }
     {
@@ -48,7 +48,7 @@ impl FluentSet {
         self.0 & other.0 == self.0
     }
 
-    // Whether it has no fluent but the first ones.
+    /// Whether it has no fluent but the first ones.
     pub fn is_among(self, fluents: u8) -> bool
         ensures { IsTrue result ↔ (self.0 < 2 ^ fluents) }
     {

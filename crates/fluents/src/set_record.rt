@@ -1,4 +1,4 @@
-// A set as a record of a file: it has one field, and no mark.
+//! A set as a record of a file: it has one field, and no mark.
 ghost use Rattle.fluents.specs.SetRecords.{set_entry, entry_set};
 
 use crate::FluentSet;

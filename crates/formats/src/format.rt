@@ -1,4 +1,4 @@
-// What the files of one kind of domain hold.
+//! What the files of one kind of domain hold.
 ghost use Rattle.std.specs.Prelude.{◌↔◌, ℕ};
 ghost use Rattle.files.specs.Parts.{Converts, ValidParts};
 ghost use Rattle.files.specs.Contents.{File};
@@ -7,14 +7,14 @@ ghost use Rattle.files.specs.declared.kind.Kind.{Kind};
 use files::kind::Kind;
 use files::record::Record;
 
-// A kind of file, what its records stand for, and the limits of the domains that it tells of.
-// The two laws: a record and what it stands for are made of each other, and a domain is within its limits exactly when its parts can stand in a file.
+/// A kind of file, what its records stand for, and the limits of the domains that it tells of.
+/// The two laws: a record and what it stands for are made of each other, and a domain is within its limits exactly when its parts can stand in a file.
 pub trait Format {
     type Action: Record + Drop;
 
     type Goal: Record + Drop;
 
-    // The kind of file stands twice: a constant for code, and a ghost member, equal to it, for clauses.
+    /// The kind of file stands twice: a constant for code, and a ghost member, equal to it, for clauses.
     const KIND: Kind;
 
     ghost KIND: { Kind };

@@ -1,4 +1,4 @@
-// The formats of domain files, and the parts of a domain that such a file holds.
+//! The formats of domain files, and the parts of a domain that such a file holds.
 #![tactic(auto)]
 
 pub mod format;

@@ -1,4 +1,4 @@
-// The parts of a domain, in memory.
+//! The parts of a domain, in memory.
 ghost use Rattle.std.specs.Prelude.{◌≡◌, IfOk, IfErr, vec_len};
 ghost use Rattle.std.specs.Slice.{IsItemAt};
 ghost use Rattle.domain.specs.Rooms.{outcome_in, SameRoom};
@@ -13,7 +13,7 @@ use files::file::File;
 use files::read_file::read_file;
 use files::write_file::write_file;
 
-// The parts of a domain as its file has them, within the limits of the format.
+/// The parts of a domain as its file has them, within the limits of the format.
 #[derive(Drop)]
 pub struct Parts<F: Format> {
     pub file: File<F::Action, F::Goal>,
@@ -21,7 +21,7 @@ pub struct Parts<F: Format> {
 }
 
 impl<F: Format> Parts<F> {
-    // The parts that the bytes are the file of, in the room that is handed over. A refusal gives the room back.
+    /// The parts that the bytes are the file of, in the room that is handed over. A refusal gives the room back.
     pub fn read(
         bytes: &[u8],
         room: Room<F::Action, F::Goal>,
@@ -35,7 +35,7 @@ impl<F: Format> Parts<F> {
         Ok(Parts { file })
     }
 
-    // The file of the parts into the front of the place; the answer is how many bytes it takes.
+    /// The file of the parts into the front of the place; the answer is how many bytes it takes.
     pub fn write(&self, place: &mut [u8]) -> Result<usize, WriteFault>
         ensures value { result ≡ write_outcome (parts_file F.KIND F.Action.written F.Goal.written (contents_of self.now.file)) place.old }
         ensures place { place.new ≡ place_after (parts_file F.KIND F.Action.written F.Goal.written (contents_of self.now.file)) place.old }
@@ -50,7 +50,7 @@ impl<F: Format> Parts<F> {
         )
     }
 
-    // How many fluents or places there are.
+    /// How many fluents or places there are.
     pub fn size(&self) -> u8
         ensures { result ≡ self.now.file.size }
     {
@@ -63,14 +63,14 @@ impl<F: Format> Parts<F> {
         self.file.start
     }
 
-    // The actions, in the order of their numbers.
+    /// The actions, in the order of their numbers.
     pub fn actions(&self) -> &[F::Action]
         ensures { result.now ≡ self.now.file.actions.items }
     {
         self.file.actions.as_slice()
     }
 
-    // The goals, in the order of their numbers.
+    /// The goals, in the order of their numbers.
     pub fn goals(&self) -> &[F::Goal]
         ensures { result.now ≡ self.now.file.goals.items }
     {
@@ -89,14 +89,14 @@ impl<F: Format> Parts<F> {
         self.goals().len() as u8
     }
 
-    // The action of that number, if there is one.
+    /// The action of that number, if there is one.
     pub fn action(&self, number: u8) -> Option<&F::Action>
         ensures { IsItemAt self.now.file.actions.items number result }
     {
         self.actions().get(usize::from(number))
     }
 
-    // The goal of that number, if there is one.
+    /// The goal of that number, if there is one.
     pub fn goal(&self, number: u8) -> Option<&F::Goal>
         ensures { IsItemAt self.now.file.goals.items number result }
     {

@@ -1,7 +1,7 @@
-// Where each entry stands, noted in a second slice, so that an entry is found without a search through the list.
+//! Where each entry stands, noted in a second slice, so that an entry is found without a search through the list.
 ghost use Rattle.std.specs.Prelude.{ℕ, List};
 
-// The rows of the second slice, for entries of type T.
+/// The rows of the second slice, for entries of type T.
 pub trait Tracks<T>: Sized {
     // The rows note that the entry stands at the place.
     ghost noted: { List Self → T → ℕ → Type 0 };
@@ -12,7 +12,7 @@ pub trait Tracks<T>: Sized {
     // Nothing of the rows differs but the places that they note.
     ghost kept: { List Self → List Self → Type 0 };
 
-    // Notes that the entry stands at the place.
+    /// Notes that the entry stands at the place.
     fn moved(rows: &mut [Self], entry: &T, place: usize)
         ensures here { noted rows.new entry.now place }
         ensures others { (e : T) (p : ℕ) → apart e entry.now → noted rows.old e p → noted rows.new e p }

@@ -1,4 +1,4 @@
-// Rows for a list whose entries need not be found: they note nothing.
+//! Rows for a list whose entries need not be found: they note nothing.
 ghost use Rattle.std.specs.Prelude.{◌≡◌};
 ghost use Rattle.std.proofs.Common.{rules};
 

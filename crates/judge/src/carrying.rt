@@ -1,4 +1,4 @@
-// What a list of actions carries of a log.
+//! What a list of actions carries of a log.
 ghost use Rattle.std.specs.Prelude.{◌≡◌, length, drop, is_ok, IfOk, IfErr, MatchResult, nat_le};
 ghost use Rattle.logs.specs.Entries.{entries};
 ghost use Rattle.judge.specs.Carried.{CarriedAt, NoneLonger};
@@ -7,8 +7,8 @@ ghost use Rattle.judge.specs.declared.fault.CarryFault.TheVariants.{Place};
 use crate::fault::CarryFault;
 use logs::log::ObservationLog;
 
-// How many entries from the log's front the list carries. The caller lends the places, and nothing is allocated.
-// Their places go into the front of `places`, whose rest stays; where it is shorter than the log, nothing is written.
+/// How many entries from the log's front the list carries. The caller lends the places, and nothing is allocated.
+/// Their places go into the front of `places`, whose rest stays; where it is shorter than the log, nothing is written.
 pub fn carried(log: &ObservationLog, list: &[u8], places: &mut [usize]) -> Result<usize, CarryFault>
     ensures room { is_ok result ≡ nat_le (length (entries log.now)) (length places.old) }
     ensures fault { IfErr result (λ fault. fault ≡ Place) }

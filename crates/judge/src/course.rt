@@ -1,17 +1,17 @@
-// How far a list of actions runs.
+//! How far a list of actions runs.
 ghost use Rattle.std.specs.Prelude.{◌≡◌, ◌<◌, ◌≤◌, false, length, take, slice_index};
 ghost use Rattle.plans.specs.Plans.{after, RunsAll, cost_of};
 
 use domain::Domain;
 
-// The actions of a list that run one after another from the start, up to the first that cannot.
+/// The actions of a list that run one after another from the start, up to the first that cannot.
 #[derive(Clone, Copy, PartialEq, Eq, Debug)]
 pub struct Course {
-    // how many they are
+    /// how many they are
     pub ran: usize,
-    // the state that they lead to
+    /// the state that they lead to
     pub last: u64,
-    // the sum of their costs
+    /// the sum of their costs
     pub cost: u128,
 }
 

@@ -1,13 +1,13 @@
-// Why it is not told what a list of actions carries.
+//! Why it is not told what a list of actions carries.
 ghost use Rattle.std.specs.Prelude.{Some, codes};
 
 use std::error::Error;
 use std::fmt;
 
-// It has no number, since no program reports it: a program lends as many places as a log has entries.
+/// It has no number, since no program reports it: a program lends as many places as a log has entries.
 #[derive(Clone, Copy, PartialEq, Eq, Debug)]
 pub enum CarryFault {
-    // the place is shorter than the log
+    /// the place is shorter than the log
     Place,
 }
 

@@ -1,4 +1,4 @@
-// A domain of either kind.
+//! A domain of either kind.
 ghost use Rattle.loading.specs.Contents.{contents};
 ghost use Rattle.loading.specs.Meanings.{meaning_of, limits, in_limits};
 

@@ -1,4 +1,4 @@
-// The file of a domain of either kind.
+//! The file of a domain of either kind.
 ghost use Rattle.std.specs.Prelude.{◌≡◌, IfOk, Ok};
 ghost use Rattle.files.specs.Writing.{write_outcome, place_after};
 ghost use Rattle.loading.specs.Contents.{contents};
@@ -14,7 +14,7 @@ use maps::field_map::FieldMap;
 use std::alloc::Global;
 
 impl AnyDomain {
-    // The domain that the bytes are the file of: a map after the letter M, and else a card. It can also fail for want of memory.
+    /// The domain that the bytes are the file of: a map after the letter M, and else a card. It can also fail for want of memory.
     #[tactic(auto, using(crate::proofs::FileLaws::load_exactly))]
     pub fn read(heap: Global, bytes: &[u8]) -> Result<AnyDomain, LoadFault>
         ensures value { Loads bytes.now result }
@@ -28,7 +28,7 @@ impl AnyDomain {
         }
     }
 
-    // The domain's file into the front of the place; the answer is how many bytes it takes.
+    /// The domain's file into the front of the place; the answer is how many bytes it takes.
     pub fn write(&self, place: &mut [u8]) -> Result<usize, WriteFault>
         ensures value { result ≡ write_outcome (domain_file (contents self.now)) place.old }
         ensures place { place.new ≡ place_after (domain_file (contents self.now)) place.old }

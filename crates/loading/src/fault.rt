@@ -1,4 +1,4 @@
-// Why no domain is loaded.
+//! Why no domain is loaded.
 ghost use Rattle.std.specs.Prelude.{◌≡◌};
 ghost use Rattle.loading.specs.Faults.{load_number, file_fault};
 ghost use Rattle.loading.specs.declared.fault.LoadFault.TheVariants as fault;
@@ -8,14 +8,14 @@ use domain::room::Unfilled;
 
 #[derive(Clone, Copy, PartialEq, Eq, Debug)]
 pub enum LoadFault {
-    // there is no memory for a domain
+    /// there is no memory for a domain
     Room(RoomFault),
-    // the bytes are no domain's file
+    /// the bytes are no domain's file
     Read(ReadFault),
 }
 
 impl LoadFault {
-    // The fault of the file, or else the error that there was no memory.
+    /// The fault of the file, or else the error that there was no memory.
     pub fn of_file(self) -> Result<ReadFault, RoomFault>
         ensures { result ≡ file_fault self }
     {

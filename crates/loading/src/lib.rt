@@ -1,4 +1,4 @@
-// Domains of either kind, from the bytes of their files.
+//! Domains of either kind, from the bytes of their files.
 #![tactic(auto)]
 
 pub mod any_domain;

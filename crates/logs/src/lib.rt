@@ -1,4 +1,4 @@
-// The observation log.
+//! The observation log.
 #![tactic(auto)]
 
 pub mod following;

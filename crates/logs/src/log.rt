@@ -1,11 +1,11 @@
-// The observation log.
+//! The observation log.
 ghost use Rattle.std.specs.Prelude.{◌≡◌, ◌≤◌, ◌-◌, [], ◌∷◌, ◌++◌, length, take, is_ok, Ok, Err, if◌then◌else◌, nat_lt};
 
 use crate::following;
 use domain::fault::LogFault;
 
-// The numbers of the actions that were seen, in their order; at most 20, in a fixed table, so that no entry fails for want of memory.
-// Ghost fields and no model: the log is `Copy`, which callers may use, and a model of what is copied gives its fields back, which the entries do not.
+/// The numbers of the actions that were seen, in their order; at most 20, in a fixed table, so that no entry fails for want of memory.
+/// Ghost fields and no model: the log is `Copy`, which callers may use, and a model of what is copied gives its fields back, which the entries do not.
 #[derive(Clone, Copy)]
 pub struct ObservationLog {
     pub(crate) table: [u8; ObservationLog::MOST],
@@ -21,10 +21,10 @@ impl ObservationLog {
     ghost use Rattle.logs.specs.Entries.{entries};
     ghost use Rattle.logs.specs.Reading.{read_log, outcome};
 
-    // The most entries that a log holds.
+    /// The most entries that a log holds.
     pub const MOST: usize = 20;
 
-    // The empty log.
+    /// The empty log.
     pub fn new() -> ObservationLog
         ensures { entries result ≡ [] }
     {
@@ -34,7 +34,7 @@ impl ObservationLog {
         }
     }
 
-    // The log that bytes tell, an entry to a byte, of a domain with so many actions.
+    /// The log that bytes tell, an entry to a byte, of a domain with so many actions.
     pub fn read(bytes: &[u8], actions: u8) -> Result<ObservationLog, LogFault>
         ensures { outcome result ≡ read_log bytes.now actions }
     {
@@ -51,7 +51,7 @@ impl ObservationLog {
         Ok(log)
     }
 
-    // The entries, in their order.
+    /// The entries, in their order.
     pub fn as_slice(&self) -> &[u8]
         ensures { result.now ≡ entries self.now }
     {
@@ -64,28 +64,28 @@ impl ObservationLog {
         self.as_slice().len()
     }
 
-    // The entry at a place, counted from 0, if there is one.
+    /// The entry at a place, counted from 0, if there is one.
     pub fn entry(&self, place: usize) -> Option<u8>
         ensures { result ≡ slice_get (entries self.now) place }
     {
         self.as_slice().get(place).copied()
     }
 
-    // Whether the action is one of the entries. `following::may_run` asks the same of a slice, since a watched domain follows a slice.
+    /// Whether the action is one of the entries. `following::may_run` asks the same of a slice, since a watched domain follows a slice.
     pub fn occurs(&self, action: u8) -> bool
         ensures { result ≡ occurs action (entries self.now) }
     {
         self.as_slice().contains(&action)
     }
 
-    // Whether an action may run: one that is marked only if it is an entry.
+    /// Whether an action may run: one that is marked only if it is an entry.
     pub fn may_run(&self, action: u8, marked: bool) -> bool
         ensures { result ≡ may_run (entries self.now) action marked }
     {
         following::may_run(self.as_slice(), action, marked)
     }
 
-    // One entry more, unless the log is full.
+    /// One entry more, unless the log is full.
     pub fn append(&mut self, action: u8) -> Result<(), LogFault>
         ensures value { result ≡ (if nat_lt (length (entries self.old)) 20 then Ok tt else Err LogFault.Full) }
         ensures entries { entries self.new ≡ (if is_ok result then entries self.old ++ (action ∷ []) else entries self.old) }
@@ -98,7 +98,7 @@ impl ObservationLog {
         Ok(())
     }
 
-    // The last entry less; the answer is that entry, if there was one.
+    /// The last entry less; the answer is that entry, if there was one.
     pub fn drop_last(&mut self) -> Option<u8>
         ensures value { result ≡ slice_get (entries self.old) (length (entries self.old) - 1) }
         ensures entries { entries self.new ≡ take (length (entries self.old) - 1) (entries self.old) }
@@ -108,7 +108,7 @@ impl ObservationLog {
         Some(last)
     }
 
-    // How many entries are carried once the action has run, if count were before.
+    /// How many entries are carried once the action has run, if count were before.
     pub fn advance(&self, count: usize, action: u8) -> usize
         ensures { result ≡ advance (entries self.now) count action }
     {

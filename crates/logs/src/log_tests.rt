@@ -1,4 +1,4 @@
-// The log from empty to full, and past it.
+//! The log from empty to full, and past it.
 use crate::log::ObservationLog;
 use domain::fault::LogFault;
 use std::process::Abort;

@@ -1,4 +1,4 @@
-// What a field map's file holds.
+//! What a field map's file holds.
 ghost use Rattle.files.specs.declared.kind.Kind.TheVariants as kind;
 ghost use Rattle.maps.specs.Conversions.{converts, same_limits};
 ghost use Rattle.maps.specs.Limits.{Among, MoveAmong, InLimits, map_of};
@@ -8,7 +8,7 @@ use crate::place::Place;
 use files::kind::Kind;
 use formats::format::Format;
 
-// The format of a map's file; it has no values.
+/// The format of a map's file; it has no values.
 pub enum MapFormat {}
 
 impl Format for MapFormat {

@@ -1,4 +1,4 @@
-// Field maps: a planning domain whose states are places.
+//! Field maps: a planning domain whose states are places.
 #![tactic(auto)]
 
 pub mod field_map;

@@ -1,4 +1,4 @@
-// A field map as a planning domain.
+//! A field map as a planning domain.
 ghost use Rattle.std.specs.Prelude.{◌≡◌, ◌↔◌, ◌^◌, ◌<◌, ◌≤◌, false, IsTrue, MatchOption};
 ghost use Rattle.maps.specs.Contents.{contents};
 ghost use Rattle.maps.specs.Maps.{meaning_of, move_at, Runs, Meets, OwnCost, OwnMark};

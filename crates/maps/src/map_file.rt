@@ -1,4 +1,4 @@
-// A field map's file.
+//! A field map's file.
 ghost use Rattle.std.specs.Prelude.{◌≡◌, IfOk, IfErr, Ok};
 ghost use Rattle.domain.specs.Rooms.{SameRoom};
 ghost use Rattle.files.specs.Writing.{write_outcome, place_after};
@@ -13,8 +13,8 @@ use domain::room::{Room, Unfilled};
 use formats::parts::Parts;
 
 impl FieldMap {
-    // The map that the bytes are the file of, in the room that is handed over. A refusal gives the room back.
-    // Its parts are read for every kind of domain alike; only the words of the contract are a map's own.
+    /// The map that the bytes are the file of, in the room that is handed over. A refusal gives the room back.
+    /// Its parts are read for every kind of domain alike; only the words of the contract are a map's own.
     #[tactic(auto, using(crate::proofs::FileLaws::told_exactly))]
     pub fn read(
         bytes: &[u8],
@@ -29,7 +29,7 @@ impl FieldMap {
         Ok(FieldMap { parts })
     }
 
-    // The map's file into the front of the place; the answer is how many bytes it takes.
+    /// The map's file into the front of the place; the answer is how many bytes it takes.
     pub fn write(&self, place: &mut [u8]) -> Result<usize, WriteFault>
         ensures value { result ≡ write_outcome (map_file (contents self.now)) place.old }
         ensures place { place.new ≡ place_after (map_file (contents self.now)) place.old }

@@ -1,7 +1,7 @@
-// The places of a field map.
+//! The places of a field map.
 ghost use Rattle.std.specs.Prelude.{◌≡◌};
 
-// A place, by its number; places are numbered from 0.
+/// A place, by its number; places are numbered from 0.
 #[derive(Clone, Copy, PartialEq, Eq, Debug)]
 pub struct Place(pub u8);
 

@@ -1,4 +1,4 @@
-// A move and a goal as records of a file.
+//! A move and a goal as records of a file.
 ghost use Rattle.std.specs.Prelude.{◌≡◌};
 ghost use Rattle.maps.specs.MapRecords.{place_of, move_entry, entry_move, goal_entry, entry_goal};
 

@@ -1,4 +1,4 @@
-// What the two least costs of a goal tell.
+//! What the two least costs of a goal tell.
 ghost use Rattle.std.specs.Prelude.{◌≡◌, Some};
 ghost use Rattle.plans.specs.Verdicts.{verdict_of, verdict_words, JudgesRightly};
 
@@ -6,19 +6,19 @@ use std::fmt;
 
 #[derive(Clone, Copy, PartialEq, Eq, Debug)]
 pub enum Verdict {
-    // a cheapest plan carries the log
+    /// a cheapest plan carries the log
     Stands,
-    // plans that carry the log cost more than the cheapest
+    /// plans that carry the log cost more than the cheapest
     CostsMore,
-    // there are plans, but none carries the log
+    /// there are plans, but none carries the log
     CutOff,
-    // there is no plan
+    /// there is no plan
     NoPlan,
 }
 
 impl Verdict {
-    // The verdict on the least cost of an admitted plan and that of a whole one.
-    // It is no `From`: the clause `right` carries the theorem on verdicts, under its own name.
+    /// The verdict on the least cost of an admitted plan and that of a whole one.
+    /// It is no `From`: the clause `right` carries the theorem on verdicts, under its own name.
     pub fn of(costs: (Option<u32>, Option<u32>)) -> Verdict
         ensures value { result ≡ verdict_of costs.0 costs.1 }
         ensures right { JudgesRightly costs.0 costs.1 result }

@@ -1,11 +1,11 @@
-// Why a ranking is refused.
+//! Why a ranking is refused.
 ghost use Rattle.rank.specs.Faults.{rank_number};
 
 use domain::fault::Numbered;
 
 #[derive(Clone, Copy, PartialEq, Eq, Debug)]
 pub enum RankFault {
-    // the place is shorter than the ranking
+    /// the place is shorter than the ranking
     Place = 18,
 }
 

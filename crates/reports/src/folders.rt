@@ -1,4 +1,4 @@
-// The folders that a program is asked about, and their files.
+//! The folders that a program is asked about, and their files.
 ghost use Rattle.std.specs.Prelude.{◌≢◌, ◌≤◌, IfOk, IfErr, vec_len};
 ghost use Rattle.std.specs.IoError.{error_kind};
 ghost use Rattle.std.specs.declared.io.ErrorKind.TheVariants.{NotFound};
@@ -7,7 +7,7 @@ use std::io::ErrorKind;
 use std::rt::{Env, Files};
 use std::{env, fs, io};
 
-// The folders that the arguments name, and the working directory where they name none.
+/// The folders that the arguments name, and the working directory where they name none.
 pub fn folders<R: Env + AllocGlobal>(rt: &R) -> io::Result<Vec<String>>
     ensures { IfOk result (λ folders. 1 ≤ vec_len folders) }
 {
@@ -18,7 +18,7 @@ pub fn folders<R: Env + AllocGlobal>(rt: &R) -> io::Result<Vec<String>>
     Ok(folders)
 }
 
-// The bytes of a file of the folder, or none where the folder has no such file. No clause can say what a file holds: what is promised is that a missing file is no error.
+/// The bytes of a file of the folder, or none where the folder has no such file. No clause can say what a file holds: what is promised is that a missing file is no error.
 pub fn bytes_in<R: Files + AllocGlobal>(
     rt: &R,
     folder: &str,
@@ -35,7 +35,7 @@ pub fn bytes_in<R: Files + AllocGlobal>(
     }
 }
 
-// The same, where a missing file stands for an empty one.
+/// The same, where a missing file stands for an empty one.
 pub fn bytes_or_empty<R: Files + AllocGlobal>(
     rt: &R,
     folder: &str,

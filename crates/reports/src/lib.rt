@@ -1,4 +1,4 @@
-// What the programs share: folders and their files, rows of numbers, and the words of a refusal.
+//! What the programs share: folders and their files, rows of numbers, and the words of a refusal.
 #![tactic(auto)]
 
 pub mod folders;

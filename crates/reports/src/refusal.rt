@@ -1,11 +1,11 @@
-// A domain file that is refused.
+//! A domain file that is refused.
 ghost use Rattle.std.specs.Prelude.{◌≡◌, Some};
 ghost use Rattle.reports.specs.Words.{question_words, refusal_line};
 
 use domain::fault::{Numbered, ReadFault};
 use std::fmt;
 
-// What is asked of a file where the fault stands.
+/// What is asked of a file where the fault stands.
 pub fn question(fault: ReadFault) -> &'static str
     ensures { result.now ≡ question_words fault }
 {
@@ -21,7 +21,7 @@ pub fn question(fault: ReadFault) -> &'static str
     }
 }
 
-// The line on a refused file: the number of the fault, where it stands, and what is asked there.
+/// The line on a refused file: the number of the fault, where it stands, and what is asked there.
 #[derive(Clone, Copy)]
 pub struct Refusal(pub ReadFault);
 

@@ -1,9 +1,9 @@
-// Rows of numbers, or of anything that can be printed.
+//! Rows of numbers, or of anything that can be printed.
 ghost use Rattle.reports.specs.Words.{row_text};
 
 use std::fmt;
 
-// The items of a row with a space between each two; where there is none, the word for that.
+/// The items of a row with a space between each two; where there is none, the word for that.
 #[derive(Clone, Copy)]
 pub struct Row<'a, T>(pub &'a [T], pub &'a str);
 

@@ -1,4 +1,4 @@
-// The cheapest rows in whose states plans end.
+//! The cheapest rows in whose states plans end.
 ghost use Rattle.std.specs.Prelude.{◌≡◌, ℕ, ◌<◌, ◌≤◌, Bool, true, false, length, IfSome, IsTrue};
 ghost use Rattle.table.specs.Rows.{node};
 ghost use Rattle.search.specs.Solved.{CheapestIn, CheapestEnd};

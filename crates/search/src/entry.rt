@@ -1,15 +1,15 @@
-// The entries of the waiting list.
+//! The entries of the waiting list.
 ghost use Rattle.std.specs.Prelude.{◌≡◌};
 ghost use Rattle.search.specs.Entries.{entry_of};
 
 use table::row::Node;
 
-// A state that waits to be settled; the order is by cost, and then by the state's number.
+/// A state that waits to be settled; the order is by cost, and then by the state's number.
 #[derive(Clone, Copy, Default, PartialEq, Eq, PartialOrd, Ord)]
 pub struct Entry {
     pub cost: u32,
     pub state: u64,
-    // the row of the state
+    /// the row of the state
     pub row: usize,
 }
 

@@ -1,4 +1,4 @@
-// All states that can be reached, each with a cheapest way to it.
+//! All states that can be reached, each with a cheapest way to it.
 ghost use Rattle.std.specs.Prelude.{◌≡◌, ◌≤◌, length, MatchResult};
 ghost use Rattle.plans.specs.Reachable.{MoreThan};
 ghost use Rattle.table.specs.Rows.{node};

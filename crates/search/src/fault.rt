@@ -1,15 +1,15 @@
-// Why a search is refused.
+//! Why a search is refused.
 ghost use Rattle.search.specs.Faults.{search_number};
 
 use domain::fault::Numbered;
 
 #[derive(Clone, Copy, PartialEq, Eq, Debug)]
 pub enum SearchFault {
-    // the domain has no goal of that number
+    /// the domain has no goal of that number
     Goal = 15,
-    // the table has no row or more than MOST_ROWS, or the waiting list or the plan place is shorter
+    /// the table has no row or more than MOST_ROWS, or the waiting list or the plan place is shorter
     Tables = 16,
-    // more states can be reached than there are rows
+    /// more states can be reached than there are rows
     Rows = 17,
 }
 

@@ -1,4 +1,4 @@
-// The pair of least costs, and a cheapest plan.
+//! The pair of least costs, and a cheapest plan.
 ghost use Rattle.std.specs.Prelude.{◌≡◌, ◌≤◌, ◌↔◌, length, IsTrue};
 ghost use Rattle.table.specs.Rows.{node};
 ghost use Rattle.search.specs.Answers.{sizes_of, Suited, Found, Answered, TablesStay};
@@ -12,7 +12,7 @@ use crate::plan::write_plan;
 use domain::Domain;
 use table::row::Row;
 
-// The most rows that a search works with: with no more, every cost stays below 2^28.
+/// The most rows that a search works with: with no more, every cost stays below 2^28.
 pub const MOST_ROWS: usize = 4096;
 
 // Whether there are 1 to MOST_ROWS rows, and no fewer places to wait in and for the plan.
@@ -44,9 +44,9 @@ fn answer<D: Domain>(
     (costs, length)
 }
 
-// The least cost of a plan for the goal and that of a plan which ends in a complete state, and how many actions the plan has that is shown:
-// a cheapest complete one where there is one, else a cheapest one, else none.
-// The two costs are a pair, by which the verdict is decided. Each of the three places is lent by itself: a struct of borrows would name them one by one in the contract.
+/// The least cost of a plan for the goal and that of a plan which ends in a complete state, and how many actions the plan has that is shown:
+/// a cheapest complete one where there is one, else a cheapest one, else none.
+/// The two costs are a pair, by which the verdict is decided. Each of the three places is lent by itself: a struct of borrows would name them one by one in the contract.
 pub fn least_costs<D: Domain>(
     domain: &D,
     goal: u8,

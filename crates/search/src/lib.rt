@@ -1,4 +1,4 @@
-// The pair of least costs and a cheapest plan, for any domain and goal.
+//! The pair of least costs and a cheapest plan, for any domain and goal.
 #![tactic(auto)]
 
 mod ends;

@@ -1,4 +1,4 @@
-// The rows of a table note where their states stand in the waiting list.
+//! The rows of a table note where their states stand in the waiting list.
 ghost use Rattle.search.specs.Entries.{noted, apart, Kept};
 ghost use Rattle.std.proofs.Common.{rules};
 

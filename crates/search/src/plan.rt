@@ -1,4 +1,4 @@
-// Writing a plan from a finished table.
+//! Writing a plan from a finished table.
 ghost use Rattle.std.specs.Prelude.{ℕ};
 ghost use Rattle.domain.specs.Meaning.{Meaning};
 ghost use Rattle.table.specs.Rows.{node};

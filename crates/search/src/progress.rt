@@ -1,4 +1,4 @@
-// How far a search has come.
+//! How far a search has come.
 
 // How many rows are known, and how many of them wait.
 // It goes from call to call with the rows and the list: a struct of three borrows would name each of them in every contract.

@@ -1,4 +1,4 @@
-// A way to a state is offered to the table.
+//! A way to a state is offered to the table.
 ghost use Rattle.std.specs.Prelude.{◌<◌, ◌≤◌, length, None, Ok};
 ghost use Rattle.table.specs.Index.{Found};
 ghost use Rattle.search.specs.Searching.{stage_of, Dearer, TakesWay};

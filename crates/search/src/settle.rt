@@ -1,4 +1,4 @@
-// One state is settled: it is taken from the waiting list, and what its actions lead to is offered to the table.
+//! One state is settled: it is taken from the waiting list, and what its actions lead to is offered to the table.
 ghost use Rattle.std.specs.Prelude.{◌*◌, ◌<◌, ◌≤◌, length, take};
 ghost use Rattle.table.specs.Rows.{node};
 ghost use Rattle.search.specs.Searching.{stage_of, Searching, Waiting, TakesNext, SettledRow, Expands, OffersNext};

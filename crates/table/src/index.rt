@@ -1,4 +1,4 @@
-// Finding rows by their states.
+//! Finding rows by their states.
 ghost use Rattle.std.specs.Prelude.{◌≡◌, ℕ, ◌+◌, ◌<◌, ◌↔◌, length, IsSome, IfSome, if◌then◌else◌, Some, None, MatchOption, nat_lt};
 ghost use Rattle.table.specs.Index.{chain_of, Indexed, Found, Put, Linked, Added};
 ghost use Rattle.table.specs.Rows.{blank_row, at};
@@ -14,7 +14,7 @@ fn chain_of(state: u64, size: usize) -> usize
     (state.wrapping_mul(0x9E37_79B9_7F4A_7C15) >> 32) as usize % size
 }
 
-// Forgets all rows.
+/// Forgets all rows.
 pub fn clear(rows: &mut [Row])
     ensures rows { (k : ℕ) → at rows.new k ≡ blank_row }
     ensures indexed { Indexed rows.new 0 }
@@ -22,7 +22,7 @@ pub fn clear(rows: &mut [Row])
     rows.fill(Row::default());
 }
 
-// The row of a state among the first len. It is there if the table has it, provided that the rows can be found.
+/// The row of a state among the first len. It is there if the table has it, provided that the rows can be found.
 pub fn find(rows: &[Row], len: usize, state: u64) -> Option<usize>
     ensures row { IfSome result (λ i. (i < len) × ((at rows.now i).node.state ≡ state)) }
     ensures found { Indexed rows.now len → Found rows.now len state result }
@@ -46,8 +46,8 @@ pub fn find(rows: &[Row], len: usize, state: u64) -> Option<usize>
     None
 }
 
-// Another node in the row i; none if there is no such row. A row whose state stays is found as before.
-// The answer is an option and no bool, so that `add` hands it up by `?`.
+/// Another node in the row i; none if there is no such row. A row whose state stays is found as before.
+/// The answer is an option and no bool, so that `add` hands it up by `?`.
 pub fn put(rows: &mut [Row], i: usize, node: Node) -> Option<()>
     ensures value { IsSome result ↔ (i < length rows.old) }
     ensures rows { MatchOption result (rows.new ≡ rows.old) (λ done. Put rows.old i node rows.new) }
@@ -70,7 +70,7 @@ fn link(rows: &mut [Row], i: usize)
     rows[chain].link.head = Some(i);
 }
 
-// One row more, of a state that none of the first len has; the answer is how many there are then, if there is a place for it.
+/// One row more, of a state that none of the first len has; the answer is how many there are then, if there is a place for it.
 pub fn add(rows: &mut [Row], len: usize, node: Node) -> Option<usize>
     ensures value { result ≡ (if nat_lt len (length rows.old) then Some (len + 1) else None) }
     ensures rows { MatchOption result (rows.new ≡ rows.old) (λ n. Added rows.old len node rows.new) }

@@ -1,4 +1,4 @@
-// The state table of a search: rows that the caller lends, found by state.
+//! The state table of a search: rows that the caller lends, found by state.
 #![tactic(auto)]
 
 pub mod index;

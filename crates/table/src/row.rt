@@ -1,22 +1,22 @@
-// The rows of a state table. They name one another by their indices: the table is lent, so nothing in it is allocated, and no row moves.
+//! The rows of a state table. They name one another by their indices: the table is lent, so nothing in it is allocated, and no row moves.
 
-// An action that leads on from the state of a row.
+/// An action that leads on from the state of a row.
 #[derive(Clone, Copy)]
 pub struct Step {
     pub from: usize,
     pub action: u8,
 }
 
-// A state that a search has come to, and the cheapest way to it that is known.
+/// A state that a search has come to, and the cheapest way to it that is known.
 #[derive(Clone, Copy, Default)]
 pub struct Node {
     pub state: u64,
-    // what the way costs, and how many actions it has
+    /// what the way costs, and how many actions it has
     pub cost: u32,
     pub steps: usize,
-    // the last action of the way, and where it leads on from; none at the start
+    /// the last action of the way, and where it leads on from; none at the start
     pub last: Option<Step>,
-    // no cheaper way can come
+    /// no cheaper way can come
     pub settled: bool,
 }
 
@@ -29,12 +29,12 @@ pub(crate) struct Link {
     pub(crate) next: Option<usize>,
 }
 
-// A table is filled with default rows before it is lent; what they hold is of no account.
+/// A table is filled with default rows before it is lent; what they hold is of no account.
 #[derive(Clone, Copy, Default)]
 pub struct Row {
     pub node: Node,
-    // where the state stands in the waiting list; it means nothing once the node is settled.
-    // An enum of both would be written whole at every move of the heap.
+    /// where the state stands in the waiting list; it means nothing once the node is settled.
+    /// An enum of both would be written whole at every move of the heap.
     pub place: usize,
     pub(crate) link: Link,
 }

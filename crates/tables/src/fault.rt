@@ -1,4 +1,4 @@
-// Why there are no tables.
+//! Why there are no tables.
 ghost use Rattle.std.specs.Prelude.{◌≡◌, Some};
 ghost use Rattle.tables.specs.Taking.{fault_words};
 ghost use Rattle.tables.specs.declared.fault.TablesFault.TheVariants.{Memory};
@@ -9,9 +9,9 @@ use std::fmt;
 
 #[derive(Clone, Copy, PartialEq, Eq, Debug)]
 pub enum TablesFault {
-    // no row is asked for, or more than 4096 are
+    /// no row is asked for, or more than 4096 are
     Rows,
-    // there is no memory for them
+    /// there is no memory for them
     Memory,
 }
 

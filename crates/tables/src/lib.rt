@@ -1,4 +1,4 @@
-// The tables that a search works in, as one value.
+//! The tables that a search works in, as one value.
 #![tactic(auto)]
 
 pub mod fault;

@@ -1,4 +1,4 @@
-// The tables of a search. Their size and the plan that they show are all that counts outside.
+//! The tables of a search. Their size and the plan that they show are all that counts outside.
 ghost use Rattle.std.specs.Prelude.{◌≡◌, ◌≤◌, vec_len};
 
 use crate::fault::TablesFault;
@@ -9,7 +9,7 @@ use search::least_costs::{MOST_ROWS, least_costs};
 use std::alloc::Global;
 use table::row::Row;
 
-// The rows of a search, and a waiting list and a plan place as long.
+/// The rows of a search, and a waiting list and a plan place as long.
 #[derive(Drop)]
 pub struct Tables {
     rows: Vec<Row>,
@@ -28,10 +28,10 @@ impl Tables {
     ghost use Rattle.tables.specs.Parts.{row_count, rows_of, waiting_of, plan_of};
     ghost use Rattle.tables.specs.Taking.{Taken};
 
-    // The most rows that a search works with.
+    /// The most rows that a search works with.
     pub const MOST: usize = MOST_ROWS;
 
-    // Tables of so many rows, and no plan in them yet.
+    /// Tables of so many rows, and no plan in them yet.
     pub fn take(heap: Global, rows: usize) -> Result<Tables, TablesFault>
         ensures { Taken rows result }
     {
@@ -46,7 +46,7 @@ impl Tables {
         })
     }
 
-    // The least cost of a plan for the goal, and that of a plan which ends in a complete state.
+    /// The least cost of a plan for the goal, and that of a plan which ends in a complete state.
     pub fn least_costs<D: Domain>(
         &mut self,
         domain: &D,
@@ -68,7 +68,7 @@ impl Tables {
         Ok(costs)
     }
 
-    // The plan that the last search shows: a cheapest complete one where there is one, else a cheapest one, else none.
+    /// The plan that the last search shows: a cheapest complete one where there is one, else a cheapest one, else none.
     pub fn plan(&self) -> &[u8]
         ensures { result.now ≡ plan_of self.now }
     {

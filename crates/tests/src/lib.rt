@@ -1,4 +1,4 @@
-// Tests that need several crates.
+//! Tests that need several crates.
 #![tactic(auto)]
 
 #[cfg(test)]

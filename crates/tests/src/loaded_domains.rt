@@ -1,4 +1,4 @@
-// Domains of both kinds, loaded from their files.
+//! Domains of both kinds, loaded from their files.
 use domain::Domain;
 use domain::fault::{Position, ReadFault};
 use examples::sample_files;

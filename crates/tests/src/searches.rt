@@ -1,4 +1,4 @@
-// Searches on watched and plain domains.
+//! Searches on watched and plain domains.
 use domain::Domain;
 use examples::sample_files;
 use judge::course::Course;

@@ -1,4 +1,4 @@
-// Watched domains over cards, and over each other.
+//! Watched domains over cards, and over each other.
 use domain::Domain;
 use domain::fault::LogFault;
 use examples::sample_files;

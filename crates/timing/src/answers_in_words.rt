@@ -1,4 +1,4 @@
-// What is printed of a goal.
+//! What is printed of a goal.
 ghost use Rattle.std.specs.Prelude.{Some};
 ghost use Rattle.timing.specs.Words.{cost_words, answer_words};
 

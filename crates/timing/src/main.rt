@@ -1,5 +1,5 @@
-// Searches for each goal of a domain file, under an empty log, as many rounds as are asked for, and says what the last round finds.
-// Arguments: a folder with a file domain.bin, and the number of rounds.
+//! Searches for each goal of a domain file, under an empty log, as many rounds as are asked for, and says what the last round finds.
+//! Arguments: a folder with a file domain.bin, and the number of rounds.
 #![tactic(auto)]
 
 mod answers_in_words;

@@ -1,4 +1,4 @@
-// Rounds over the goals of a domain.
+//! Rounds over the goals of a domain.
 use crate::answers_in_words::say;
 use anyhow::anyhow;
 use domain::Domain;

@@ -1,4 +1,4 @@
-// Why a call on a watch is refused.
+//! Why a call on a watch is refused.
 ghost use Rattle.std.specs.Prelude.{◌≡◌};
 ghost use Rattle.watch.specs.Faults.{watch_number};
 ghost use Rattle.watch.specs.declared.fault.WatchFault.TheVariants.{Log, Search, Rank};
@@ -9,11 +9,11 @@ use search::fault::SearchFault;
 
 #[derive(Clone, Copy, PartialEq, Eq, Debug)]
 pub enum WatchFault {
-    // an entry cannot be added to the log, or dropped from it
+    /// an entry cannot be added to the log, or dropped from it
     Log(LogFault),
-    // the search cannot be made
+    /// the search cannot be made
     Search(SearchFault),
-    // the goals cannot be ranked
+    /// the goals cannot be ranked
     Rank(RankFault),
 }
 

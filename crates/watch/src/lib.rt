@@ -1,4 +1,4 @@
-// The watch: a watched domain and a board. So far its types are public, and its calls are not.
+//! The watch: a watched domain and a board. So far its types are public, and its calls are not.
 #![tactic(auto)]
 
 pub mod call;

@@ -1,4 +1,4 @@
-// The calls on a watch that change its log.
+//! The calls on a watch that change its log.
 ghost use Rattle.std.specs.Prelude.{◌≡◌};
 ghost use Rattle.watched.specs.Noting.{add_outcome, drop_outcome};
 ghost use Rattle.watch.specs.Book.{log_after};

@@ -1,8 +1,8 @@
-// What a report answers.
+//! What a report answers.
 use plans::verdict::Verdict;
 
-// The verdict on a goal, the least cost of an admitted plan and that of a whole one, and how many actions the plan has that is shown.
-// The verdict stands beside the two costs that it follows from, as they are printed.
+/// The verdict on a goal, the least cost of an admitted plan and that of a whole one, and how many actions the plan has that is shown.
+/// The verdict stands beside the two costs that it follows from, as they are printed.
 #[derive(Clone, Copy, PartialEq, Eq, Debug)]
 pub struct Report {
     pub verdict: Verdict,

@@ -1,4 +1,4 @@
-// Reports on goals.
+//! Reports on goals.
 ghost use Rattle.std.specs.Prelude.{◌≡◌};
 ghost use Rattle.search.specs.Answers.{sizes_of};
 ghost use Rattle.watch.specs.Book.{present};

@@ -1,4 +1,4 @@
-// A report in a list of calls on one watch.
+//! A report in a list of calls on one watch.
 ghost use Rattle.std.specs.Prelude.{◌≡◌};
 ghost use Rattle.search.specs.Answers.{sizes_of};
 ghost use Rattle.watch.specs.Lists.{event_of};

@@ -1,4 +1,4 @@
-// What a watch tells without being changed.
+//! What a watch tells without being changed.
 ghost use Rattle.std.specs.Prelude.{◌≡◌, length, if◌then◌else◌, None, MatchResult, nat_lt};
 ghost use Rattle.std.specs.List.{slice_get};
 ghost use Rattle.rank.specs.Ranking.{rank_answer, RankedInto};

@@ -1,4 +1,4 @@
-// A watch over a domain.
+//! A watch over a domain.
 ghost use Rattle.std.specs.Prelude.{◌≡◌, [], replicate};
 ghost use Rattle.board.specs.Rows.{open_row};
 ghost use Rattle.watch.specs.Runs.{Ran};
@@ -8,7 +8,7 @@ use domain::Domain;
 use std::marker::Model;
 use watched::watched::Watched;
 
-// The domain with its log, and what the last reports on its goals said.
+/// The domain with its log, and what the last reports on its goals said.
 #[derive(Drop)]
 pub struct Watch<D> {
     pub(crate) watched: Watched<D>,

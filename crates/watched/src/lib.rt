@@ -1,4 +1,4 @@
-// The watched domain: a domain with a log, which is again a domain.
+//! The watched domain: a domain with a log, which is again a domain.
 #![tactic(auto)]
 
 pub mod watched;

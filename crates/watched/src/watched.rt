@@ -1,4 +1,4 @@
-// A domain with a log.
+//! A domain with a log.
 ghost use Rattle.std.specs.Prelude.{◌≡◌, ℕ, ◌-◌, List, [], ◌∷◌, ◌++◌, length, take, is_ok, if◌then◌else◌};
 ghost use Rattle.domain.specs.Meaning.{Meaning};
 ghost use Rattle.logs.specs.Entries.{entries};
@@ -28,10 +28,10 @@ impl<D> Model for Watched<D> {
 }
 
 impl<D: Domain> Watched<D> {
-    // The domain with an empty log.
-    // Of every domain and log: a list is a plan of the watched domain exactly when it is an admitted one,
-    // and ends complete exactly when it also carries the log and ends complete below. Of a stack of logs the same holds for every log in it.
-    // No domain has both at most n reachable states and more than n.
+    /// The domain with an empty log.
+    /// Of every domain and log: a list is a plan of the watched domain exactly when it is an admitted one,
+    /// and ends complete exactly when it also carries the log and ends complete below. Of a stack of logs the same holds for every log in it.
+    /// No domain has both at most n reachable states and more than n.
     pub fn new(domain: D) -> Watched<D>
         ensures domain { result.domain ≡ domain }
         ensures log { entries result.log ≡ [] }
@@ -46,7 +46,7 @@ impl<D: Domain> Watched<D> {
         }
     }
 
-    // The domain below.
+    /// The domain below.
     pub fn domain(&self) -> &D
         ensures { result.now ≡ self.now.domain }
     {
@@ -59,7 +59,7 @@ impl<D: Domain> Watched<D> {
         self.log
     }
 
-    // One entry more at the end of the log.
+    /// One entry more at the end of the log.
     pub fn add_entry(&mut self, action: u8) -> Result<(), LogFault>
         ensures value { result ≡ add_outcome (D.meaning self.old.domain) (entries self.old.log) action }
         ensures log { entries self.new.log ≡ (if is_ok result then entries self.old.log ++ (action ∷ []) else entries self.old.log) }
@@ -74,7 +74,7 @@ impl<D: Domain> Watched<D> {
         self.log.append(action)
     }
 
-    // The last entry less.
+    /// The last entry less.
     pub fn drop_entry(&mut self) -> Result<(), LogFault>
         ensures value { result ≡ drop_outcome (entries self.old.log) }
         ensures log { entries self.new.log ≡ take (length (entries self.old.log) - 1) (entries self.old.log) }

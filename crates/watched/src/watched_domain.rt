@@ -1,4 +1,4 @@
-// A watched domain is again a domain.
+//! A watched domain is again a domain.
 ghost use Rattle.std.specs.Prelude.{◌≡◌, ◌+◌, ◌^◌, nat_lt};
 ghost use Rattle.logs.specs.Entries.{entries};
 ghost use Rattle.plans.specs.Watched.{is_narrow, extra_bits, log_over, below, count, watched};
