@@ -1,7 +1,8 @@
 -- The worked examples, by tests that antt computes.
 use Rattle.std.proofs.Common.{◌≡◌, ℕ, Bool, true, false, ltb, List, [], ◌∷◌, Ok, refl}
 use Rattle.std.specs.List.{list_all, AllByRecursion as All}
-use Rattle.std.proofs.lemmas.Bool.{and_parts, ltb-true}
+use Rattle.std.proofs.lemmas.Bool.{ltb-true}
+use Rattle.std.proofs.lemmas.List.Sums.{AllPass-from_list_all}
 use Rattle.domain.specs.Meaning.{Limits}
 use Rattle.files.specs.declared.kind.Kind.TheVariants as kind
 use Rattle.files.specs.Numbers.{Bytes}
@@ -25,8 +26,7 @@ abbrev pub are_bytes : List ℕ → Bool
 are_bytes bs = list_all (λ b. ltb b 256) bs
 
 bytes : (bs : List ℕ) → are_bytes bs ≡ true → Bytes bs
-bytes [] h = tt
-bytes (b ∷ bs) h = let both = and_parts _ _ h in (ltb-true b 256 both.0, bytes bs both.1)
+bytes bs h = λ i d l. ltb-true _ _ (AllPass-from_list_all (λ b. ltb b 256) bs h i d l)
 
 card_limits : (bs : List ℕ) (c : card.Contents) → are_bytes bs ≡ true → read_card bs ≡ Ok c → Limits (cards.meaning_of c)
 card_limits bs c are read = card_laws.limits c ((card_exactly bs (read_exactly kind.Card bs (bytes bs are))).only c read).0
