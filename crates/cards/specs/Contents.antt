@@ -5,8 +5,8 @@ use Rattle.cards.specs.declared.card.Card.{Card}
 use Rattle.cards.specs.Limits.{card_of}
 pub use Rattle.cards.specs.Limits.{Contents, InLimits}
 
--- A function, and no model of the type: reading and the law of limits are defined by `Contents`,
--- and a value whose own fields were these would be no such record, so that clauses would have to convert it.
+-- A function, and no model of the type: for the law of limits a model would hold the limits too,
+-- so it would be another record than `Contents`, by which reading and that law are defined.
 abbrev pub contents : Card → Contents
 contents c = card_of (contents_of c.parts.file)
 

@@ -27,6 +27,7 @@ impl Accepted<'_> {
     pub(crate) fn goal(&self, number: u8) -> FluentSet
         ensures { result ≡ goal_at self.now.card number }
     {
+        // the default by name: the check does not find what `unwrap_or_default` gives
         self.card.goal(number).unwrap_or(FluentSet::default())
     }
 

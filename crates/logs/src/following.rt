@@ -1,5 +1,5 @@
 //! How a log is followed, by its entries: those of a log, or none over a domain that is too wide.
-//! The methods of `ObservationLog` are these functions on its own entries.
+//! `may_run` and `advance` of `ObservationLog`, by which the log is told, are these functions on its own entries.
 ghost use Rattle.std.specs.Prelude.{◌≡◌};
 ghost use Rattle.plans.specs.Counting as counting;
 

@@ -4,7 +4,7 @@ use Rattle.maps.specs.declared.field_map.FieldMap.{FieldMap}
 use Rattle.maps.specs.Limits.{map_of}
 pub use Rattle.maps.specs.Limits.{Contents, InLimits}
 
--- A function, and no model of the type: reading and the law of limits are defined by `Contents`,
--- and a value whose own fields were these would be no such record, so that clauses would have to convert it.
+-- A function, and no model of the type: for the law of limits a model would hold the limits too,
+-- so it would be another record than `Contents`, by which reading and that law are defined.
 abbrev pub contents : FieldMap → Contents
 contents m = map_of (contents_of m.parts.file)

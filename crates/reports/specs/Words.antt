@@ -40,7 +40,7 @@ abbrev pub row_text : {T : Type 0} → (T → Option (List ℕ)) → List ℕ �
 row_text output none [] = Some none
 row_text output none (x ∷ xs) = output x ++? rest_text output xs
 
--- where each item has a text, that of the row is those with a space between each two
+-- A law of `row_text`, which no clause cites: where each item has a text, that of the row is those with a space between each two.
 module _ {T : Type 0} (output : T → Option (List ℕ)) (text : T → List ℕ) (shown : (x : T) → output x ≡ Some (text x)) where
   rest_is : (xs : List T) → rest_text output xs ≡ Some (flat_map (λ x. codes " " ++ text x) xs)
   rest_is [] = refl

@@ -26,9 +26,15 @@ pub(crate) fn take_next(
 {
     let (entry, waiting) = take_least(list, progress.waiting, rows)?;
     progress.waiting = waiting;
-    let mut node = rows[entry.row].node;
-    node.settled = true;
-    put(rows, entry.row, node);
+    let node = rows[entry.row].node;
+    put(
+        rows,
+        entry.row,
+        Node {
+            settled: true,
+            ..node
+        },
+    );
     Some(entry.row)
 }
 

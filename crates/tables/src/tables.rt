@@ -1,4 +1,4 @@
-//! The tables of a search. Their size and the plan that they show are all that counts outside.
+//! The tables of a search. Their size and the plan that they show are all that counts outside; the clause `answered` is the search's, and also says what stays of the plan place.
 ghost use Rattle.std.specs.Prelude.{◌≡◌, ◌≤◌, vec_len};
 
 use crate::fault::TablesFault;

@@ -2,7 +2,7 @@
 use plans::verdict::Verdict;
 
 /// The verdict on a goal, the least cost of an admitted plan and that of a whole one, and how many actions the plan has that is shown.
-/// The verdict stands beside the two costs that it follows from, as they are printed.
+/// The verdict stands beside the two costs that it follows from, as in the answer that a run has of it (`Report` in `Calls.antt`).
 #[derive(Clone, Copy, PartialEq, Eq, Debug)]
 pub struct Report {
     pub verdict: Verdict,

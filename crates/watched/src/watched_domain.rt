@@ -56,6 +56,7 @@ impl<D: Domain> Watched<D> {
     fn is_state(&self, state: u64) -> bool
         ensures { result ≡ nat_lt state (2 ^ ((D.meaning self.now.domain).width + extra_bits (D.meaning self.now.domain))) }
     {
+        // by a comparison: `has_bits` asks the same, but `files` is no crate below this one
         state < 1u64 << self.bits()
     }
 }
