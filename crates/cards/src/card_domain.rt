@@ -15,7 +15,8 @@ impl Card {
     fn is_state(&self, state: u64) -> bool
         ensures { IsTrue result ↔ (state < 2 ^ (contents self.now).fluents) }
     {
-        FluentSet::from(state).is_among(self.parts.size())
+        // by a comparison: with `is_among` of the set, which asks the same, a search takes about 5 per cent longer
+        state < 1u64 << self.parts.size()
     }
 
     // The action of that number, if it runs in the state.
