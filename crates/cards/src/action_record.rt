@@ -2,7 +2,7 @@
 ghost use Rattle.cards.specs.ActionRecords.{action_entry, entry_action};
 
 use crate::action::Action;
-use files::record::{Record, Values, first_four};
+use files::record::{Record, Values, first_four, value_at};
 use fluents::FluentSet;
 
 impl Record for Action {
@@ -19,6 +19,10 @@ impl Record for Action {
             cost: u16::try_from(cost).unwrap_or(u16::MAX),
             marked,
         }
+    }
+
+    fn value(&self, field: usize) -> u64 {
+        value_at(&self.values(), field)
     }
 
     fn values(&self) -> Values {

@@ -44,6 +44,19 @@ little_read bs zs n z l =
     ∙ ap little (take_all 8 (bs ++ drop n zs) (omega arith))
     ∙ little_append bs (drop n zs) (little_drop n zs z)
 
+-- n bytes spell a number below 256 ^ n
+power_pos : (n : ℕ) → 0 < 256 ^ n
+power_pos zero = omega arith
+power_pos (suc n) = omega (arith, power_pos n, pow-suc 256 n)
+
+pub little_below : (bs : List ℕ) (n : ℕ) → Bytes bs → length bs ≤ n → little bs < 256 ^ n
+little_below [] n h l = power_pos n
+little_below (b ∷ bs) zero h l = absurd (omega arith)
+little_below (b ∷ bs) (suc n) h l =
+    let below : little bs < 256 ^ n = little_below bs n (All-tail (λ b. b < 256) b bs h) (omega arith) in
+    let byte : b < 256 = All-head (λ b. b < 256) b bs h in
+    omega (arith, pow-suc 256 n)
+
 pub length_spelled : (n v : ℕ) → length (spelled n v) ≡ n
 length_spelled zero v = refl
 length_spelled (suc n) v = ap suc (length_spelled n (v / 256))

@@ -1,5 +1,5 @@
 //! What a record of a file stands for.
-ghost use Rattle.std.specs.Prelude.{◌≡◌};
+ghost use Rattle.std.specs.Prelude.{◌≡◌, slice_index};
 ghost use Rattle.files.specs.Contents.{Entry, four_of};
 
 /// The values of a record's fields, absent ones too, in the order of their bits. No record of a file has more than four; behind the last one's value stands 0.
@@ -15,11 +15,25 @@ pub trait Record: Sized {
     fn from_values(values: &[u64], marked: bool) -> Self
         ensures { result ≡ made (record { values = values.now; marked = marked }) };
 
+    /// The value of a field, and 0 past the last one.
+    fn value(&self, field: usize) -> u64
+        ensures { result ≡ slice_index (written self.now).values field };
+
     fn values(&self) -> Values
-        ensures { result ≡ four_of (written self.now).values };
+        ensures { result ≡ four_of (written self.now).values }
+    {
+        [self.value(0), self.value(1), self.value(2), self.value(3)]
+    }
 
     fn is_marked(&self) -> bool
         ensures { result ≡ (written self.now).marked };
+}
+
+/// The value of a field, and 0 where there is none.
+pub fn value_at(values: &[u64], field: usize) -> u64
+    ensures { result ≡ slice_index values.now field }
+{
+    values.get(field).copied().unwrap_or(0)
 }
 
 /// The first four of the values, and 0 for each that is missing.

@@ -2,7 +2,7 @@
 ghost use Rattle.fluents.specs.SetRecords.{set_entry, entry_set};
 
 use crate::FluentSet;
-use files::record::{Record, Values, first_four};
+use files::record::{Record, Values, first_four, value_at};
 
 impl Record for FluentSet {
     ghost written = { set_entry };
@@ -12,6 +12,10 @@ impl Record for FluentSet {
     fn from_values(values: &[u64], _marked: bool) -> FluentSet {
         let [set, ..] = first_four(values);
         FluentSet::from(set)
+    }
+
+    fn value(&self, field: usize) -> u64 {
+        value_at(&self.values(), field)
     }
 
     fn values(&self) -> Values {

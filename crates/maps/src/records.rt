@@ -4,7 +4,7 @@ ghost use Rattle.maps.specs.MapRecords.{place_of, move_entry, entry_move, goal_e
 
 use crate::moves::Move;
 use crate::place::Place;
-use files::record::{Record, Values, first_four};
+use files::record::{Record, Values, first_four, value_at};
 
 // The place that a value stands for; a file's places take eight bits.
 fn place_of(value: u64) -> Place
@@ -26,6 +26,10 @@ impl Record for Move {
             cost: u16::try_from(cost).unwrap_or(u16::MAX),
             marked,
         }
+    }
+
+    fn value(&self, field: usize) -> u64 {
+        value_at(&self.values(), field)
     }
 
     fn values(&self) -> Values {
@@ -50,6 +54,10 @@ impl Record for Place {
     fn from_values(values: &[u64], _marked: bool) -> Place {
         let [place, ..] = first_four(values);
         place_of(place)
+    }
+
+    fn value(&self, field: usize) -> u64 {
+        value_at(&self.values(), field)
     }
 
     fn values(&self) -> Values {
