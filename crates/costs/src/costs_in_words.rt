@@ -2,11 +2,13 @@
 use crate::refusals_in_words::Refused;
 use domain::Domain;
 use reports::row::Row;
+use std::alloc::AllocError;
 use tables::tables::Tables;
 
 // The domain as it stands, with no log.
 pub(crate) fn say_costs<D: Domain>(rt: &HostRuntime, domain: &D) -> anyhow::Result<()> {
-    let mut tables = Tables::take(rt.alloc(), Tables::MOST)?;
+    // of the tables' faults only want of memory can come, which is said in the words for any memory
+    let mut tables = Tables::take(rt.alloc(), Tables::MOST).map_err(|_| AllocError)?;
     for goal in 0..domain.goal_count() {
         match tables.least_costs(domain, goal) {
             Ok((Some(cost), _)) => {

@@ -15,7 +15,7 @@ pub(crate) fn say_folder(rt: &HostRuntime, folder: &str) -> anyhow::Result<()> {
             say_costs(rt, &domain)?;
             judge_list(rt, folder, &domain)?;
         }
-        Err(fault) => println!(rt; "  {}", Refusal(fault.of_file()?))?,
+        Err(fault) => println!(rt; "  {}", Refusal(fault.of_bytes(bytes.as_slice())?))?,
     }
     Ok(())
 }

@@ -46,7 +46,7 @@ pub(crate) fn describe(rt: &HostRuntime, folder: &str) -> anyhow::Result<()> {
     println!(rt; "{folder}")?;
     match AnyDomain::read(rt.alloc(), bytes.as_slice()) {
         Ok(domain) => say_file(rt, bytes.as_slice(), &domain)?,
-        Err(fault) => println!(rt; "  {}", Refusal(fault.of_file()?))?,
+        Err(fault) => println!(rt; "  {}", Refusal(fault.of_bytes(bytes.as_slice())?))?,
     }
     Ok(())
 }

@@ -1,5 +1,5 @@
 -- to be read in this order
 pub mod Contents
 pub mod Meanings
-pub mod Faults
 pub mod Loading
+pub mod Faults

@@ -3,6 +3,8 @@ use Rattle.std.specs.Prelude.{◌≡◌, ℕ, if◌then◌else◌, List, Ok, Err
 use Rattle.domain.specs.declared.fault.ReadFault.{ReadFault}
 use Rattle.cards.specs.CardFiles.{card_file, read_card}
 use Rattle.maps.specs.MapFiles.{map_file, read_map}
+use Rattle.files.specs.declared.kind.Kind.{Kind}
+use Rattle.files.specs.declared.kind.Kind.TheVariants as kind
 use Rattle.formats.specs.Files as files
 use Rattle.loading.specs.declared.any_domain.AnyDomain.{AnyDomain}
 use Rattle.loading.specs.declared.fault.LoadFault.{LoadFault}
@@ -14,6 +16,10 @@ use Rattle.loading.specs.Meanings.{InLimits}
 abbrev pub domain_file : Contents → List ℕ
 domain_file (of_card c) = card_file c
 domain_file (of_map m) = map_file m
+
+-- the kind of domain that bytes are read as
+abbrev pub kind_of : List ℕ → Kind
+kind_of bs = if slice_index bs 0 == 77 then kind.Map else kind.Card
 
 -- after the letter M a map is read, and else a card, which asks for its own letter
 abbrev pub load : List ℕ → Result Contents ReadFault

@@ -2,7 +2,7 @@
 ghost use Rattle.std.specs.Prelude.{◌≡◌, IfOk, Ok};
 ghost use Rattle.files.specs.Writing.{write_outcome, place_after};
 ghost use Rattle.loading.specs.Contents.{contents};
-ghost use Rattle.loading.specs.Loading.{domain_file, load, Loads, ReadExactly};
+ghost use Rattle.loading.specs.Loading.{kind_of, domain_file, load, Loads, ReadExactly};
 
 use crate::any_domain::AnyDomain;
 use crate::fault::LoadFault;
@@ -13,6 +13,17 @@ use files::kind::Kind;
 use maps::field_map::FieldMap;
 use std::alloc::Global;
 
+// The kind of domain that bytes are read as.
+pub(crate) fn kind_of(bytes: &[u8]) -> Kind
+    ensures { result ≡ kind_of bytes.now }
+{
+    if bytes.first() == Some(&Kind::Map.letter()) {
+        Kind::Map
+    } else {
+        Kind::Card
+    }
+}
+
 impl AnyDomain {
     /// The domain that the bytes are the file of: a map after the letter M, and else a card. It can also fail for want of memory.
     #[tactic(auto, using(crate::proofs::FileLaws::load_exactly))]
@@ -21,10 +32,9 @@ impl AnyDomain {
         ensures exact { ReadExactly bytes.now }
         ensures same { IfOk result (λ d. domain_file (contents d) ≡ bytes.now) }
     {
-        if bytes.first() == Some(&Kind::Map.letter()) {
-            Ok(AnyDomain::Map(FieldMap::read(bytes, Room::take(heap)?)?))
-        } else {
-            Ok(AnyDomain::Card(Card::read(bytes, Room::take(heap)?)?))
+        match kind_of(bytes) {
+            Kind::Map => Ok(AnyDomain::Map(FieldMap::read(bytes, Room::take(heap)?)?)),
+            Kind::Card => Ok(AnyDomain::Card(Card::read(bytes, Room::take(heap)?)?)),
         }
     }
 

@@ -1,10 +1,14 @@
 //! Why no domain is loaded.
-ghost use Rattle.std.specs.Prelude.{◌≡◌};
-ghost use Rattle.loading.specs.Faults.{load_number, file_fault};
+ghost use Rattle.std.specs.Prelude.{◌≡◌, Some};
+ghost use Rattle.loading.specs.Faults.{load_number, file_fault, bytes_fault, no_room_words};
 ghost use Rattle.loading.specs.declared.fault.LoadFault.TheVariants as fault;
 
+use crate::any_file::kind_of;
 use domain::fault::{Numbered, ReadFault, RoomFault};
 use domain::room::Unfilled;
+use files::kind::Kind;
+use std::error::Error;
+use std::fmt;
 
 #[derive(Clone, Copy, PartialEq, Eq, Debug)]
 pub enum LoadFault {
@@ -24,7 +28,31 @@ impl LoadFault {
             LoadFault::Read(fault) => Ok(fault),
         }
     }
+
+    /// The same for the bytes that were to be loaded: where there was no memory, it is said for which kind of domain.
+    pub fn of_bytes(self, bytes: &[u8]) -> Result<ReadFault, NoRoom>
+        ensures { result ≡ bytes_fault bytes.now self }
+    {
+        self.of_file().map_err(|_| NoRoom(kind_of(bytes)))
+    }
 }
+
+/// There was no memory for a domain of this kind.
+#[derive(Clone, Copy, PartialEq, Eq, Debug)]
+pub struct NoRoom(pub Kind);
+
+impl fmt::Display for NoRoom {
+    ghost output = { λ fault. Some (no_room_words fault.0) };
+
+    fn fmt<W: fmt::Write>(&self, f: &mut fmt::Formatter<W>) -> fmt::Result {
+        f.write_str(match self.0 {
+            Kind::Card => "no memory for a card",
+            Kind::Map => "no memory for a map",
+        })
+    }
+}
+
+impl Error for NoRoom {}
 
 impl Numbered for LoadFault {
     ghost numbered = { load_number };

@@ -26,7 +26,11 @@ pub fn bytes_in<R: Files + AllocGlobal>(
 ) -> io::Result<Option<Vec<u8>>>
     ensures { IfErr result (λ error. error_kind error ≢ NotFound) }
 {
-    let path = format!(in rt.alloc(); "{folder}/{name}")?;
+    // the words for want of memory that all programs have, as for their tables
+    let path = format!(in rt.alloc(); "{folder}/{name}").map_err(|_| io::Error::new(
+        ErrorKind::OutOfMemory,
+        "memory allocation failed",
+    ))?;
     // a match and no `?`, which would hand every error on: a missing file is none
     match fs::read(rt, path.as_str()) {
         Ok(bytes) => Ok(Some(bytes)),
