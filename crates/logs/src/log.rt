@@ -75,7 +75,7 @@ impl ObservationLog {
     pub fn occurs(&self, action: u8) -> bool
         ensures { result ≡ occurs action (entries self.now) }
     {
-        self.as_slice().contains(&action)
+        following::occurs(self.as_slice(), action)
     }
 
     /// Whether an action may run: one that is marked only if it is an entry.

@@ -11,11 +11,12 @@ pub struct Step {
 #[derive(Clone, Copy, Default)]
 pub struct Node {
     pub state: u64,
-    /// what the way costs, and how many actions it has
-    pub cost: u32,
+    /// how many actions the way has
     pub steps: usize,
     /// the last action of the way, and where it leads on from; none at the start
     pub last: Option<Step>,
+    /// what the way costs; it stands beside the mark, since fields lie as they are written, and so a row is smaller
+    pub cost: u32,
     /// no cheaper way can come
     pub settled: bool,
 }

@@ -17,5 +17,5 @@ returns g c =
     let added = c.add.ensures.value ∙ cond-true _ _ _ (lt-ltb 0 (length rows) some_rows) in
     let pushed = told.value ∙ cond-true _ _ _ (lt-ltb 0 (length list) some_places) in
     exploring_begins (g.D.Domain.meaning c.args.domain.now) rows c.add.new.rows c.push.new.rows list c.push.new.list 1
-    start c.new.result c.new.ensures (record { state = c.start.ensures; cost = c.default.ensures.1.0; steps = c.default.ensures.1.1.0; last = c.default.ensures.1.1.1.0 }) c.default.ensures.1.1.1.1 (omega arith) (omega arith)
+    start c.new.result c.new.ensures (record { state = c.start.ensures; cost = c.default.ensures.1.1.1.0; steps = c.default.ensures.1.0; last = c.default.ensures.1.1.0 }) c.default.ensures.1.1.1.1 (omega arith) (omega arith)
     c.clear.ensures.indexed (MatchOption-at_some _ _ 1 added c.add.ensures.rows) told.kept (MatchOption-at_some _ _ 1 pushed told.pushed) (MatchOption-at_some _ _ 1 pushed told.tracked)
