@@ -32,10 +32,12 @@ impl<D: Domain> Watched<D> {
     fn followed(&self) -> &[u8]
         ensures { result.now ≡ log_over (D.meaning self.now.domain) (entries self.now.log) }
     {
+        // none is the front of the same slice: with a slice of another place a search takes longer
+        let entries = self.log.as_slice();
         if self.is_narrow() {
-            self.log.as_slice()
+            entries
         } else {
-            &[]
+            &entries[..0]
         }
     }
 
